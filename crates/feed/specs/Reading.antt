@@ -1,0 +1,132 @@
+-- What one row says by itself. "A good row is `a.b.c.d/len hop`: octets of 1 to 3 digits, length of 1 or 2, one space, hop of 1 to 5.
+-- Leading zeros are read as decimal. CR, tab and further spaces are bad shape." Then numbers 1, 2 and 3 of the table, in its order.
+-- Assumes nothing.
+use mathlib.Core.Bool.{Bool, true, false, not, cond, _&&_, _||_}
+use mathlib.Core.List.{List, [], _∷_}
+use mathlib.Core.Option.{Option, none, some}
+use Prim.Native.Nat.{ℕ, _+_, _-_, _*_}
+use lib.ListN.{length, getD}
+use lib.Dec.{leb, ltb, eqb}
+use Rattle.cidr.specs.Prefix.{dotted, keyOf, hostBits}
+use Rattle.ground.specs.Numbers.{check, firstFault}
+
+-- the row numbers
+abbrev pub taken : ℕ
+taken = 0
+
+abbrev pub badShape : ℕ
+badShape = 1
+
+abbrev pub badRange : ℕ
+badRange = 2
+
+abbrev pub badHostBits : ℕ
+badHostBits = 3
+
+abbrev pub repeated : ℕ
+repeated = 4
+
+abbrev pub noRoomLeft : ℕ
+noRoomLeft = 5
+
+-- a digit is a byte from '0' to '9'
+abbrev pub isDigit : ℕ → Bool
+isDigit b = leb 48 b && leb b 57
+
+abbrev pub digitIf : Bool → ℕ → List ℕ → List ℕ
+digitIf true b ds = b ∷ ds
+digitIf false b ds = []
+
+-- the digits at the front of some bytes, as many as there are, and the bytes after them
+unfoldable pub digits : List ℕ → List ℕ
+digits [] = []
+digits (b ∷ bs) = digitIf (isDigit b) b (digits bs)
+
+unfoldable pub afterDigits : List ℕ → List ℕ
+afterDigits [] = []
+afterDigits (b ∷ bs) = cond (isDigit b) (afterDigits bs) (b ∷ bs)
+
+-- a number of the form is 1 to `most` digits
+abbrev pub isNumber : ℕ → List ℕ → Bool
+isNumber most ds = leb 1 (length ds) && leb (length ds) most
+
+-- a number of the form and the byte that stands after it
+pub record Field : Type 0 where
+  pub most : ℕ
+  pub mark : ℕ
+
+abbrev pub field : ℕ → ℕ → Field
+field m b = record { most = m; mark = b }
+
+-- the form `a.b.c.d/len hop`: four octets, three with '.' and one with '/' after it, and the length with a space after it;
+-- then the hop, after which the row ends
+abbrev pub form : List Field
+form = field 3 46 ∷ field 3 46 ∷ field 3 46 ∷ field 3 47 ∷ field 2 32 ∷ []
+
+abbrev pub hopDigits : ℕ
+hopDigits = 5
+
+-- the bytes after the mark, where they begin with it
+abbrev pub afterMark : ℕ → List ℕ → Option (List ℕ)
+afterMark mark [] = none
+afterMark mark (b ∷ bs) = cond (eqb b mark) (some bs) none
+
+abbrev pub isEnd : List ℕ → Bool
+isEnd [] = true
+isEnd (b ∷ bs) = false
+
+-- one number's digits in front of those of the numbers after it, where all are as they must be
+abbrev pub joined : Bool → List ℕ → Option (List (List ℕ)) → Option (List (List ℕ))
+joined true ds none = none
+joined true ds (some more) = some (ds ∷ more)
+joined false ds more = none
+
+-- the digits of each number of a row, where the whole row is of the form
+unfoldable pub numbersOf : List Field → List ℕ → Option (List (List ℕ))
+numbersOf [] bs = cond (isNumber hopDigits (digits bs) && isEnd (afterDigits bs)) (some (digits bs ∷ [])) none
+numbersOf (f ∷ fs) bs =
+    elim (afterMark (f .mark) (afterDigits bs)) [
+      | none ↦ none
+      | some rest ↦ joined (isNumber (f .most) (digits bs)) (digits bs) (numbersOf fs rest)
+    ]
+
+-- the value of digits, read as decimal from the first on
+unfoldable pub valueFrom : ℕ → List ℕ → ℕ
+valueFrom v [] = v
+valueFrom v (d ∷ ds) = valueFrom (v * 10 + (d - 48)) ds
+
+-- the value of the number at a place of the form: octets at 0 to 3, the length at 4, the hop at 5
+unfoldable pub at : List (List ℕ) → ℕ → ℕ
+at ns i = valueFrom 0 (getD ns i [])
+
+abbrev pub addressOf : List (List ℕ) → ℕ
+addressOf ns = dotted (at ns 0) (at ns 1) (at ns 2) (at ns 3)
+
+-- "range: an octet over 255, length over 32, hop 0 or over 65,535"
+unfoldable pub outOfRange : List (List ℕ) → Bool
+outOfRange ns =
+    (ltb 255 (at ns 0) || ltb 255 (at ns 1) || ltb 255 (at ns 2) || ltb 255 (at ns 3))
+    || ltb 32 (at ns 4)
+    || (eqb (at ns 5) 0 || ltb 65535 (at ns 5))
+
+-- "host bits: a bit of the address beyond the length is 1"
+unfoldable pub hasHostBits : List (List ℕ) → Bool
+hasHostBits ns = not (eqb (hostBits (at ns 4) (addressOf ns)) 0)
+
+-- what a row says by itself: a prefix, as its key, with a hop, or its number 1, 2 or 3
+pub data Reading : Type 0 where
+  good : ℕ → ℕ → Reading
+  bad : ℕ → Reading
+
+-- the first fault of six numbers that are of the form
+unfoldable pub numberFault : List (List ℕ) → ℕ
+numberFault ns = firstFault (check (outOfRange ns) badRange ∷ check (hasHostBits ns) badHostBits ∷ [])
+
+unfoldable pub judged : Option (List (List ℕ)) → Reading
+judged none = bad badShape
+judged (some ns) =
+    cond (eqb (numberFault ns) 0) (good (keyOf (addressOf ns) (at ns 4)) (at ns 5)) (bad (numberFault ns))
+
+-- the reading of a row: the whole row's shape first, then its values
+unfoldable pub readRow : List ℕ → Reading
+readRow bytes = judged (numbersOf form bytes)

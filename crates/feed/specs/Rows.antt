@@ -1,0 +1,20 @@
+-- "A row is the bytes before an LF. Bytes after the last LF, if there are any, are one more row. The empty feed has no rows; LF alone
+-- is one empty row."
+-- Assumes nothing.
+use mathlib.Core.Bool.{cond}
+use mathlib.Core.List.{List, [], _∷_}
+use Prim.Native.Nat.{ℕ}
+use lib.Dec.{eqb}
+
+abbrev pub LF : ℕ
+LF = 10
+
+-- the rows with one byte more in front of the first of them; where there is no row yet the byte begins one
+abbrev pub grown : ℕ → List (List ℕ) → List (List ℕ)
+grown b [] = (b ∷ []) ∷ []
+grown b (r ∷ rs) = (b ∷ r) ∷ rs
+
+-- the rows of a feed: an LF ends the row before it, any other byte belongs to the row that follows
+unfoldable pub rowsIn : List ℕ → List (List ℕ)
+rowsIn [] = []
+rowsIn (b ∷ bs) = cond (eqb b LF) ([] ∷ rowsIn bs) (grown b (rowsIn bs))

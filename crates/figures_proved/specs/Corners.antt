@@ -1,0 +1,137 @@
+-- Corners that the document's figures leave out, worked out by hand.
+-- Assumes nothing.
+use mathlib.Core.List.{List, [], _∷_, _++_}
+use Prim.Native.Nat.{ℕ, _^_}
+use lib.ListN.{length, getD}
+use Rattle.ground.specs.Halving.{halving}
+use Rattle.cidr.specs.Prefix.{dotted, size, isPrefix, holds, keyOf}
+use Rattle.routes.specs.Row.{Row, keysOf, hopsOf, room}
+use Rattle.routes.specs.WellFormed.{goodRows, halfRows, wellFormed}
+use Rattle.routes.specs.Plain.{plain}
+use Rattle.routes.specs.Change.{announced, withdrawn}
+use Rattle.routes.specs.Lookup.{lookupNumber, lookupHop, halfNumber}
+use Rattle.feed.specs.Rows.{rowsIn}
+use Rattle.feed.specs.Import.{numbers, imported, importNumber, importReport, importKeys}
+use Rattle.feed.specs.Pull.{pull}
+use Rattle.runs.specs.Bytes.{runBytes}
+use Rattle.runs.specs.Lookup.{runNumber, runHop, runProbes, hostAnswer}
+use Rattle.segment.specs.Packed.{width, wordsOf, basesOf, packedHopsOf}
+use Rattle.segment.specs.Lookup.{packedNumber, packedHop}
+use Rattle.split.specs.Split.{secondHalf}
+use Rattle.text.specs.Text.{textOf}
+use Rattle.figures_proved.specs.Figure.{Figure, figure, one, passes, fails, bytes, prefix, route}
+use Rattle.figures_proved.specs.Marked.{listA, q}
+
+-- the three widest and narrowest prefixes, as a list
+abbrev pub ends : List Row
+ends = route 0 0 0 0 0 9 ∷ route 128 0 0 0 1 8 ∷ route 255 255 255 255 32 7 ∷ []
+
+-- the numbers that the rows of a text get in a roomy import
+abbrev pub numbered : List ℕ → List ℕ
+numbered feed = numbers 1024 feed
+
+-- a good row with these bytes after it, a row of its own
+abbrev pub tailed : List ℕ → List ℕ
+tailed tail = bytes "10.0.0.0/8 7" ++ (tail ++ bytes "\n")
+
+abbrev pub corners : List Figure
+corners =
+    -- 10.0.0.0/8 has key 10,737,418,248
+    one (prefix 10 0 0 0 8) 10737418248
+    -- 0.0.0.0/0, 128.0.0.0/1 and 255.255.255.255/32: prefixes, and what they hold
+    ∷ passes (isPrefix (prefix 0 0 0 0 0))
+    ∷ passes (isPrefix (prefix 128 0 0 0 1))
+    ∷ passes (isPrefix (prefix 255 255 255 255 32))
+    ∷ fails (isPrefix (prefix 128 0 0 0 0))
+    ∷ passes (holds (prefix 0 0 0 0 0) (dotted 255 255 255 255))
+    ∷ fails (holds (prefix 128 0 0 0 1) (dotted 127 255 255 255))
+    ∷ passes (holds (prefix 128 0 0 0 1) (dotted 128 0 0 0))
+    ∷ passes (holds (prefix 128 0 0 0 1) (dotted 255 255 255 255))
+    ∷ fails (holds (prefix 255 255 255 255 32) (dotted 255 255 255 254))
+    ∷ figure (plain ends 0 ∷ plain ends (dotted 127 255 255 255) ∷ plain ends (dotted 128 0 0 0) ∷ []) (9 ∷ 9 ∷ 8 ∷ [])
+    ∷ figure (plain ends (dotted 255 255 255 254) ∷ plain ends (dotted 255 255 255 255) ∷ []) (8 ∷ 7 ∷ [])
+    -- the empty list is well-formed, answers 0, and packs to one block
+    ∷ passes (wellFormed 0 [] [])
+    ∷ one (plain [] (dotted 10 0 0 0)) 0
+    ∷ one (width q []) 0
+    ∷ figure (wordsOf [] q ++ (basesOf [] q ++ packedHopsOf [] q)) (32768 ∷ 0 ∷ 0 ∷ [])
+    ∷ figure (textOf []) []
+    -- a key of 2^38, and length fields of 33 and 63, are no prefixes
+    ∷ fails (isPrefix (2 ^ 38))
+    ∷ fails (isPrefix (keyOf 0 33))
+    ∷ fails (isPrefix (keyOf 0 63))
+    ∷ one (lookupNumber 1 (2 ^ 38 ∷ []) (1 ∷ [])) 11
+    -- 11: a count beyond one slice, hop 0, equal keys, keys that fall; a half takes label 0
+    ∷ one (lookupNumber 1 (prefix 10 0 0 0 8 ∷ []) []) 11
+    ∷ one (lookupNumber 1 (prefix 10 0 0 0 8 ∷ []) (0 ∷ [])) 11
+    ∷ one (halfNumber 1 (prefix 10 0 0 0 8 ∷ []) (0 ∷ [])) 0
+    ∷ one (lookupNumber 2 (prefix 10 0 0 0 8 ∷ prefix 10 0 0 0 8 ∷ []) (1 ∷ 1 ∷ [])) 11
+    ∷ one (lookupNumber 2 (prefix 11 0 0 0 8 ∷ prefix 10 0 0 0 8 ∷ []) (1 ∷ 1 ∷ [])) 11
+    ∷ one (lookupNumber 1 (prefix 10 0 0 0 8 ∷ 0 ∷ []) (1 ∷ 0 ∷ [])) 0
+    ∷ one (lookupHop 1 (prefix 10 0 0 0 8 ∷ 0 ∷ []) (1 ∷ 0 ∷ []) (dotted 10 9 9 9)) 1
+    -- rows: the empty feed, an LF alone, no last LF, a last LF
+    ∷ one (length (rowsIn [])) 0
+    ∷ figure (numbered (bytes "\n")) (1 ∷ [])
+    ∷ figure (numbered (bytes "10.0.0.0/8 7")) (0 ∷ [])
+    ∷ figure (numbered (bytes "10.0.0.0/8 7\n")) (0 ∷ [])
+    ∷ figure (numbered (bytes "10.0.0.0/8 7\n\n")) (0 ∷ 1 ∷ [])
+    -- octets of 999 and 1000, hops of 0, 65535, 70000 and six digits, lengths of 33 and 032
+    ∷ figure (numbered (bytes "10.0.0.999/8 7\n10.0.0.1000/8 7\n")) (2 ∷ 1 ∷ [])
+    ∷ figure (numbered (bytes "10.0.0.0/8 0\n10.0.0.0/8 65535\n11.0.0.0/8 70000\n12.0.0.0/8 000007\n")) (2 ∷ 0 ∷ 2 ∷ 1 ∷ [])
+    ∷ figure (numbered (bytes "10.0.0.0/33 7\n10.0.0.0/032 7\n010.000.0.0/08 00007\n")) (2 ∷ 1 ∷ 0 ∷ [])
+    -- the whole row's shape before any value, range before host bits
+    ∷ figure (numbered (bytes "999.2.3.4/5 6x\n10.0.0.1/8 70000\n10.0.0.1/8 7\n")) (1 ∷ 2 ∷ 3 ∷ [])
+    -- NUL, 255, CR, tab and a space after a good row, and a doubled space in it
+    ∷ figure (numbered (tailed (0 ∷ []))) (1 ∷ [])
+    ∷ figure (numbered (tailed (255 ∷ []))) (1 ∷ [])
+    ∷ figure (numbered (tailed (13 ∷ []))) (1 ∷ [])
+    ∷ figure (numbered (tailed (9 ∷ []))) (1 ∷ [])
+    ∷ figure (numbered (tailed (32 ∷ []))) (1 ∷ [])
+    ∷ figure (numbered (bytes "10.0.0.0/8  7\n 10.0.0.0/8 7\n10.0.0.0/8\n10.0.0/8 7\n")) (1 ∷ 1 ∷ 1 ∷ 1 ∷ [])
+    -- room 0 and room 1: a prefix refused for room is refused so again; a repeat comes before no room
+    ∷ one (room [] (1 ∷ [])) 0
+    ∷ figure (numbers 0 (bytes "10.0.0.0/8 7\n10.0.0.0/8 7\n")) (5 ∷ 5 ∷ [])
+    ∷ figure (numbers 1 (bytes "10.0.0.0/8 7\n11.0.0.0/8 7\n10.0.0.0/8 9\n11.0.0.0/8 7\n")) (0 ∷ 5 ∷ 4 ∷ 5 ∷ [])
+    -- the list stands in key order, and slots past it stay
+    ∷ figure (keysOf (imported 9 (bytes "10.0.0.0/8 7\n9.0.0.0/8 5\n10.0.0.0/16 6\n")))
+    (prefix 9 0 0 0 8 ∷ prefix 10 0 0 0 8 ∷ prefix 10 0 0 0 16 ∷ [])
+    ∷ figure (hopsOf (imported 9 (bytes "10.0.0.0/8 7\n9.0.0.0/8 5\n10.0.0.0/16 6\n"))) (5 ∷ 7 ∷ 6 ∷ [])
+    ∷ figure (importKeys (bytes "0.0.0.0/0 1") (77 ∷ 78 ∷ []) (79 ∷ 80 ∷ []) (81 ∷ [])) (0 ∷ 78 ∷ [])
+    -- a report one byte short is 12, and stays
+    ∷ one (importNumber (bytes "\n\n") (9 ∷ [])) 12
+    ∷ figure (importReport (bytes "\n\n") [] [] (9 ∷ [])) (9 ∷ [])
+    ∷ figure (importReport (bytes "\n\n") [] [] (9 ∷ 9 ∷ 9 ∷ [])) (1 ∷ 1 ∷ 9 ∷ [])
+    -- pulls: past an LF, to the end, in mid-row, at the end
+    ∷ one (pull (bytes "10.0.0.0/8 7\nx") 0 .next) 13
+    ∷ one (pull (bytes "10.0.0.0/8 7\nx") 13 .next) 14
+    ∷ one (pull (bytes "10.0.0.0/8 7\nx") 14 .next) 14
+    ∷ one (pull (bytes "10.0.0.0/8 7\nx") 20 .next) 20
+    -- halving: one run is no probe, five runs at most three
+    ∷ figure (halving (λ i. i) 1 9 .low ∷ halving (λ i. i) 1 9 .probes ∷ []) (0 ∷ 0 ∷ [])
+    ∷ figure (halving (λ i. i) 5 9 .low ∷ halving (λ i. i) 5 9 .probes ∷ []) (4 ∷ 3 ∷ [])
+    ∷ figure (halving (λ i. i) 5 1 .low ∷ halving (λ i. i) 5 1 .probes ∷ []) (1 ∷ 2 ∷ [])
+    -- run lookup: no runs and a count beyond one slice are 11; run bytes alike, 65,536 × 11
+    ∷ figure (runNumber 0 [] [] ∷ runNumber 2 (0 ∷ 5 ∷ []) (1 ∷ []) ∷ []) (11 ∷ 11 ∷ [])
+    ∷ figure (runHop 2 (0 ∷ 5 ∷ []) (1 ∷ 2 ∷ []) 4 ∷ runHop 2 (0 ∷ 5 ∷ []) (1 ∷ 2 ∷ []) 5 ∷ []) (1 ∷ 2 ∷ [])
+    ∷ one (runProbes 2 (0 ∷ 5 ∷ []) (1 ∷ 2 ∷ []) 5) 1
+    ∷ figure (runBytes (0 ∷ dotted 1 2 3 4 ∷ []) (5 ∷ 1542 ∷ [])) (0 ∷ 0 ∷ 0 ∷ 0 ∷ 0 ∷ 5 ∷ 1 ∷ 2 ∷ 3 ∷ 4 ∷ 6 ∷ 6 ∷ [])
+    ∷ figure (hostAnswer [] 0 ∷ hostAnswer (0 ∷ []) 0 ∷ []) (720896 ∷ 720896 ∷ [])
+    ∷ one (hostAnswer (runBytes (0 ∷ dotted 1 2 3 4 ∷ []) (5 ∷ 1542 ∷ [])) (dotted 1 2 3 3)) 5
+    ∷ one (hostAnswer (runBytes (0 ∷ dotted 1 2 3 4 ∷ []) (5 ∷ 1542 ∷ [])) (dotted 1 2 3 4)) 1542
+    -- packed lookup: A's segment at 200.27.112.170 and at its ends; too wide, no words, no bases, no hops, a first bit of 0
+    ∷ one (packedHop 4 (35265 ∷ []) (0 ∷ []) (3 ∷ 1 ∷ 2 ∷ 1 ∷ 3 ∷ 2 ∷ []) (dotted 200 27 112 170)) 2
+    ∷ one (packedHop 4 (35265 ∷ []) (0 ∷ []) (3 ∷ 1 ∷ 2 ∷ 1 ∷ 3 ∷ 2 ∷ []) (dotted 200 27 0 0)) 3
+    ∷ one (packedHop 4 (35265 ∷ []) (0 ∷ []) (3 ∷ 1 ∷ 2 ∷ 1 ∷ 3 ∷ 2 ∷ []) (dotted 200 27 255 255)) 2
+    ∷ figure (packedNumber 17 (1 ∷ []) (1 ∷ []) (1 ∷ []) 0 ∷ packedNumber 0 [] (0 ∷ []) (1 ∷ []) 0 ∷ []) (19 ∷ 19 ∷ [])
+    ∷ figure (packedNumber 0 (32768 ∷ []) [] (1 ∷ []) 0 ∷ packedNumber 0 (32768 ∷ []) (0 ∷ []) [] 0 ∷ []) (19 ∷ 19 ∷ [])
+    ∷ figure (packedNumber 0 (0 ∷ []) (0 ∷ []) (1 ∷ []) 0 ∷ packedNumber 0 (32768 ∷ []) (0 ∷ []) (0 ∷ []) 0 ∷ []) (19 ∷ 0 ∷ [])
+    -- a split of one row is 0.0.0.0/0 with label 0 alone, and n - k + 1 rows in all
+    ∷ figure (hopsOf (secondHalf 1 (route 0 0 0 0 0 4 ∷ []))) (0 ∷ [])
+    ∷ one (length (secondHalf 4 (announced (prefix 0 0 0 0 0) 4 listA))) 5
+    -- the text of a row, and of every digit's place
+    ∷ figure (textOf ends) (bytes "0.0.0.0/0 9\n128.0.0.0/1 8\n255.255.255.255/32 7\n")
+    ∷ figure (textOf (route 10 0 100 64 30 65535 ∷ [])) (bytes "10.0.100.64/30 65535\n")
+    -- announcing a listed prefix keeps the count, and withdrawing takes one row
+    ∷ figure (hopsOf (announced (prefix 128 0 0 0 1) 6 ends)) (9 ∷ 6 ∷ 7 ∷ [])
+    ∷ figure (hopsOf (withdrawn (prefix 128 0 0 0 1) ends)) (9 ∷ 7 ∷ [])
+    ∷ []

@@ -1,0 +1,4 @@
+pub mod Numbers
+pub mod Slots
+pub mod Stretch
+pub mod Halving

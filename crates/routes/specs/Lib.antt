@@ -1,0 +1,5 @@
+pub mod Row
+pub mod WellFormed
+pub mod Plain
+pub mod Change
+pub mod Lookup

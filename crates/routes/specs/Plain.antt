@@ -1,0 +1,38 @@
+-- "Plain lookup: of the listed prefixes that hold the address, the longest one's hop." "As an answer, 0 says that nothing matches."
+-- Assumes nothing.
+use mathlib.Core.Bool.{Bool, true, false, cond}
+use mathlib.Core.List.{List, [], _∷_}
+use mathlib.Core.Option.{Option, none, some}
+use Prim.Native.Nat.{ℕ}
+use lib.Dec.{leb}
+use Rattle.cidr.specs.Prefix.{holds, lengthOf}
+use Rattle.routes.specs.Row.{Row}
+
+-- the row in front of the others where the test passed
+abbrev pub keepRow : Bool → Row → List Row → List Row
+keepRow true r rs = r ∷ rs
+keepRow false r rs = rs
+
+-- the listed rows whose prefixes hold the address
+unfoldable pub matching : ℕ → List Row → List Row
+matching a [] = []
+matching a (r ∷ rs) = keepRow (holds (r .key) a) r (matching a rs)
+
+-- the longer of a row and another, if there is another; of two of one length the first, which a well-formed list never asks
+unfoldable pub longer : Row → Option Row → Option Row
+longer r none = some r
+longer r (some s) = cond (leb (lengthOf (s .key)) (lengthOf (r .key))) (some r) (some s)
+
+-- the longest of some rows
+unfoldable pub longest : List Row → Option Row
+longest [] = none
+longest (r ∷ rs) = longer r (longest rs)
+
+-- a row's hop, and 0 for no row
+abbrev pub hopOf : Option Row → ℕ
+hopOf none = 0
+hopOf (some r) = r .hop
+
+-- the plain answer
+unfoldable pub plain : List Row → ℕ → ℕ
+plain rows a = hopOf (longest (matching a rows))

@@ -1,0 +1,35 @@
+-- "A list is a count with two lent slices: u64 keys .. and u16 hops."
+-- Assumes nothing.
+use mathlib.Core.List.{List, [], _∷_, map}
+use Prim.Native.Nat.{ℕ, zero, suc, min}
+use lib.ListN.{length}
+
+-- one row of a list: a prefix, as its key, and a hop
+pub record Row : Type 0 where
+  pub key : ℕ
+  pub hop : ℕ
+
+abbrev pub row : ℕ → ℕ → Row
+row k h = record { key = k; hop = h }
+
+-- the rows of a list: the first `count` keys, each with the hop at its place
+unfoldable pub rowsOf : ℕ → List ℕ → List ℕ → List Row
+rowsOf zero keys hops = []
+rowsOf (suc count) [] hops = []
+rowsOf (suc count) (k ∷ keys) [] = []
+rowsOf (suc count) (k ∷ keys) (h ∷ hops) = row k h ∷ rowsOf count keys hops
+
+-- the two columns of a list of rows
+abbrev pub keysOf : List Row → List ℕ
+keysOf rows = map (λ r. r .key) rows
+
+abbrev pub hopsOf : List Row → List ℕ
+hopsOf rows = map (λ r. r .hop) rows
+
+-- a list's top room
+abbrev pub topRoom : ℕ
+topRoom = 1048576
+
+-- "Room is the lesser of the two slice lengths, at most 1,048,576 rows."
+unfoldable pub room : List ℕ → List ℕ → ℕ
+room keys hops = min (min (length keys) (length hops)) topRoom

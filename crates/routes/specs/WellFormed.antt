@@ -1,0 +1,44 @@
+-- "11: a list or table is ill-formed: count beyond its slices or its top room, key not a prefix, list hop 0, keys not ascending."
+-- Assumes nothing.
+use mathlib.Core.Bool.{Bool, true, not, _&&_}
+use mathlib.Core.List.{List, [], _∷_}
+use Prim.Native.Nat.{ℕ}
+use lib.Dec.{leb, ltb, eqb}
+use Rattle.cidr.specs.Prefix.{isPrefix}
+use Rattle.routes.specs.Row.{Row, rowsOf, room}
+
+-- every key is a prefix
+unfoldable pub prefixes : List Row → Bool
+prefixes [] = true
+prefixes (r ∷ rs) = isPrefix (r .key) && prefixes rs
+
+-- no hop is 0
+unfoldable pub hopsGiven : List Row → Bool
+hopsGiven [] = true
+hopsGiven (r ∷ rs) = not (eqb (r .hop) 0) && hopsGiven rs
+
+-- the key is below that of the first row, if there is one
+abbrev pub below : ℕ → List Row → Bool
+below k [] = true
+below k (r ∷ rs) = ltb k (r .key)
+
+-- "Keys strictly ascend."
+unfoldable pub ascending : List Row → Bool
+ascending [] = true
+ascending (r ∷ rs) = below (r .key) rs && ascending rs
+
+-- what a list's rows must be, but for label 0: "Lookup over a half takes label 0 as an ordinary hop; only its other list faults are 11."
+unfoldable pub halfRows : List Row → Bool
+halfRows rows = prefixes rows && ascending rows
+
+-- what a list's rows must be
+unfoldable pub goodRows : List Row → Bool
+goodRows rows = hopsGiven rows && halfRows rows
+
+-- the count is within the lesser slice and the top room, and the rows are what they must be
+unfoldable pub wellFormed : ℕ → List ℕ → List ℕ → Bool
+wellFormed count keys hops = leb count (room keys hops) && goodRows (rowsOf count keys hops)
+
+-- the same for a half
+unfoldable pub halfFormed : ℕ → List ℕ → List ℕ → Bool
+halfFormed count keys hops = leb count (room keys hops) && halfRows (rowsOf count keys hops)

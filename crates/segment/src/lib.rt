@@ -1,0 +1,1 @@
+// The packed form of one segment of the address space, and lookup in it.

@@ -1,0 +1,1 @@
+// The XOR split of a list into two halves for two cores.
