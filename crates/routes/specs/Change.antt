@@ -1,14 +1,14 @@
 -- "Announce adds a prefix or gives a listed one its new hop; withdraw removes it." The list afterwards, in key order.
 -- "The reported number counts addresses whose plain answer differs before and after, 0 to 4,294,967,296."
 -- Assumes nothing.
-use mathlib.Core.Bool.{Bool, true, false, not, cond, _||_}
+use mathlib.Core.Bool.{Bool, false, not, cond, _||_}
 use mathlib.Core.List.{List, [], _∷_}
 use Prim.Native.Nat.{ℕ}
 use lib.Dec.{ltb, eqb}
 use Rattle.cidr.specs.Prefix.{addresses}
 use Rattle.ground.specs.Stretch.{counted}
-use Rattle.routes.specs.Row.{Row, row}
-use Rattle.routes.specs.Plain.{plain, keepRow}
+use Rattle.routes.specs.Row.{Row, row, those}
+use Rattle.routes.specs.Plain.{plain}
 pub mod Laws
 
 -- the prefix is listed
@@ -25,8 +25,7 @@ announced k h (r ∷ rs) =
 
 -- the list after the prefix k was withdrawn
 unfoldable pub withdrawn : ℕ → List Row → List Row
-withdrawn k [] = []
-withdrawn k (r ∷ rs) = keepRow (not (eqb k (r .key))) r (withdrawn k rs)
+withdrawn k rows = those (λ r. not (eqb k (r .key))) rows
 
 -- how many of all addresses have another answer by g than by f
 pub changed : (ℕ → ℕ) → (ℕ → ℕ) → ℕ

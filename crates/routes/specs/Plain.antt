@@ -1,22 +1,16 @@
 -- "Plain lookup: of the listed prefixes that hold the address, the longest one's hop." "As an answer, 0 says that nothing matches."
 -- Assumes nothing.
-use mathlib.Core.Bool.{Bool, true, false, cond}
+use mathlib.Core.Bool.{cond}
 use mathlib.Core.List.{List, [], _∷_}
 use mathlib.Core.Option.{Option, none, some}
 use Prim.Native.Nat.{ℕ}
 use lib.Dec.{leb}
 use Rattle.cidr.specs.Prefix.{holds, lengthOf}
-use Rattle.routes.specs.Row.{Row}
-
--- the row in front of the others where the test passed
-abbrev pub keepRow : Bool → Row → List Row → List Row
-keepRow true r rs = r ∷ rs
-keepRow false r rs = rs
+use Rattle.routes.specs.Row.{Row, those}
 
 -- the listed rows whose prefixes hold the address
 unfoldable pub matching : ℕ → List Row → List Row
-matching a [] = []
-matching a (r ∷ rs) = keepRow (holds (r .key) a) r (matching a rs)
+matching a rows = those (λ r. holds (r .key) a) rows
 
 -- the longer of a row and another, if there is another; of two of one length the first, which a well-formed list never asks
 unfoldable pub longer : Row → Option Row → Option Row

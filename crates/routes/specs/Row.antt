@@ -1,5 +1,6 @@
 -- "A list is a count with two lent slices: u64 keys .. and u16 hops."
 -- Assumes nothing.
+use mathlib.Core.Bool.{Bool, true, false, _&&_}
 use mathlib.Core.List.{List, [], _∷_, map}
 use Prim.Native.Nat.{ℕ, zero, suc, min}
 use lib.ListN.{length}
@@ -25,6 +26,20 @@ keysOf rows = map (λ r. r .key) rows
 
 abbrev pub hopsOf : List Row → List ℕ
 hopsOf rows = map (λ r. r .hop) rows
+
+-- every row passes the test
+unfoldable pub every : (Row → Bool) → List Row → Bool
+every p [] = true
+every p (r ∷ rs) = p r && every p rs
+
+-- those rows that pass the test, in their order
+abbrev pub keepRow : Bool → Row → List Row → List Row
+keepRow true r rs = r ∷ rs
+keepRow false r rs = rs
+
+unfoldable pub those : (Row → Bool) → List Row → List Row
+those p [] = []
+those p (r ∷ rs) = keepRow (p r) r (those p rs)
 
 -- a list's top room
 abbrev pub topRoom : ℕ

@@ -5,17 +5,15 @@ use mathlib.Core.List.{List, [], _∷_}
 use Prim.Native.Nat.{ℕ}
 use lib.Dec.{leb, ltb, eqb}
 use Rattle.cidr.specs.Prefix.{isPrefix}
-use Rattle.routes.specs.Row.{Row, rowsOf, room}
+use Rattle.routes.specs.Row.{Row, rowsOf, every, room}
 
 -- every key is a prefix
 unfoldable pub prefixes : List Row → Bool
-prefixes [] = true
-prefixes (r ∷ rs) = isPrefix (r .key) && prefixes rs
+prefixes rows = every (λ r. isPrefix (r .key)) rows
 
 -- no hop is 0
 unfoldable pub hopsGiven : List Row → Bool
-hopsGiven [] = true
-hopsGiven (r ∷ rs) = not (eqb (r .hop) 0) && hopsGiven rs
+hopsGiven rows = every (λ r. not (eqb (r .hop) 0)) rows
 
 -- the key is below that of the first row, if there is one
 abbrev pub below : ℕ → List Row → Bool

@@ -11,9 +11,9 @@ use lib.Bits.{bitXor}
 use Rattle.ground.specs.Numbers.{check, firstFault, ifDone, illFormed, badSize, noDefault, noRoom}
 use Rattle.ground.specs.Slots.{written}
 use Rattle.cidr.specs.Prefix.{keyOf, covers}
-use Rattle.routes.specs.Row.{Row, row, rowsOf, room, keysOf, hopsOf}
+use Rattle.routes.specs.Row.{Row, row, rowsOf, those, room, keysOf, hopsOf}
 use Rattle.routes.specs.WellFormed.{wellFormed}
-use Rattle.routes.specs.Plain.{keepRow, longest, hopOf}
+use Rattle.routes.specs.Plain.{longest, hopOf}
 use Rattle.routes.specs.Change.{listed}
 
 -- 0.0.0.0/0
@@ -22,8 +22,7 @@ defaultKey = keyOf 0 0
 
 -- the rows whose prefixes hold the prefix k
 unfoldable pub covering : ℕ → List Row → List Row
-covering k [] = []
-covering k (r ∷ rs) = keepRow (covers (r .key) k) r (covering k rs)
+covering k rows = those (λ r. covers (r .key) k) rows
 
 -- "its hop XORed with the hop of the longest prefix in the first half that holds it"
 unfoldable pub relabelled : List Row → Row → Row

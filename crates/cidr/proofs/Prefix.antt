@@ -1,0 +1,95 @@
+-- What a prefix is and which addresses it holds, as facts about numbers: a prefix holds the addresses from its network on, as many as its
+-- size, and of all prefixes of one length at most one holds an address.
+-- Assumes nothing.
+use mathlib.Core.Path.{_≡_, refl, sym, ap, _∙_, subst}
+use mathlib.Core.Bool.{Bool, true, false, _&&_}
+use Prim.Native.Nat.{ℕ, _+_, _-_, _*_, _/_, _%_, _^_, _≤_, _<_}
+use native.Mathlib.Nat.{mod-lt, mod-le, mod-add-mod, mod-eq-of-lt, zero-add, add-sub-of-le, add-sub-cancel}
+use native.Mathlib.Omega.{arith}
+use lib.Dec.{leb, ltb, eqb}
+use lib.Pow.{pow-pos}
+use borrow.Author.Tests.{leb-true, ltb-true, eqb-true, le-leb, lt-ltb, eq-eqb}
+use Rattle.ground.proofs.Truth.{and-left, and-right, and-both}
+use Rattle.cidr.specs.Prefix.{addresses, keyOf, network, lengthOf, size, hostBits, isPrefix, holds}
+
+pub size-pos : (len : ℕ) → 0 < size len
+unfolding size
+size-pos len = pow-pos (32 - len)
+
+-- the parts of a prefix
+pub record Prefix (key : ℕ) : Type 0 where
+  pub short : lengthOf key ≤ 32
+  pub within : network key < addresses
+  pub aligned : hostBits (lengthOf key) (network key) ≡ 0
+
+module _ (key : ℕ) (e : isPrefix key ≡ true) where
+  rest : (ltb (network key) addresses && eqb (hostBits (lengthOf key) (network key)) 0) ≡ true
+  unfolding isPrefix
+  rest = and-right (leb (lengthOf key) 32) _ e
+
+  pub prefix-parts : Prefix key
+  unfolding isPrefix
+  prefix-parts = record {
+    short = leb-true _ _ (and-left (leb (lengthOf key) 32) _ e);
+    within = ltb-true _ _ (and-left (ltb (network key) addresses) _ rest);
+    aligned = eqb-true _ _ (and-right (ltb (network key) addresses) _ rest);
+  }
+
+pub parts-prefix : (key : ℕ) → Prefix key → isPrefix key ≡ true
+unfolding isPrefix
+parts-prefix key p =
+    and-both (le-leb _ _ (p .short)) (and-both (lt-ltb _ _ (p .within)) (eq-eqb _ _ (p .aligned)))
+
+-- a key is its network and its length
+pub key-split : (key : ℕ) → keyOf (network key) (lengthOf key) ≡ key
+key-split key = omega arith
+
+pub network-key : (net len : ℕ) → len < 64 → network (keyOf net len) ≡ net
+network-key net len h = omega arith
+
+pub length-key : (net len : ℕ) → len < 64 → lengthOf (keyOf net len) ≡ len
+length-key net len h = omega arith
+
+pub host-bits-lt : (len a : ℕ) → hostBits len a < size len
+unfolding hostBits
+host-bits-lt len a = mod-lt a (size-pos len)
+
+pub host-bits-le : (len a : ℕ) → hostBits len a ≤ a
+unfolding hostBits
+host-bits-le len a = mod-le a (size len)
+
+pub holds-is : (key a : ℕ) → holds key a ≡ true → a - hostBits (lengthOf key) a ≡ network key
+unfolding holds
+holds-is key a e = eqb-true _ _ e
+
+-- of all prefixes of one length at most one holds an address
+pub same-key : (k k′ a : ℕ) → lengthOf k ≡ lengthOf k′ → holds k a ≡ true → holds k′ a ≡ true → k ≡ k′
+same-key k k′ a e h h′ =
+    sym (key-split k)
+    ∙ (ap (λ n. keyOf n (lengthOf k)) (sym (holds-is k a h) ∙ (ap (λ l. a - hostBits l a) e ∙ holds-is k′ a h′))
+    ∙ (ap (λ l. keyOf (network k′) l) e
+    ∙ key-split k′))
+
+-- what a prefix holds lies between its network and one past its end
+pub holds-from : (key a : ℕ) → holds key a ≡ true → network key ≤ a
+holds-from key a e = subst (λ n. n ≤ a) (holds-is key a e) (omega arith)
+
+pub holds-to : (key a : ℕ) → holds key a ≡ true → a < network key + size (lengthOf key)
+holds-to key a e = omega (arith, holds-is key a e, host-bits-lt (lengthOf key) a, host-bits-le (lengthOf key) a)
+
+-- and all of that is held
+host-bits-past : (len net d : ℕ) → hostBits len net ≡ 0 → d < size len → hostBits len (net + d) ≡ d
+unfolding hostBits
+host-bits-past len net d e h = sym (mod-add-mod net (size len) d) ∙ (ap (λ x. (x + d) % size len) e ∙ (ap (λ x. x % size len) (zero-add d) ∙ mod-eq-of-lt h))
+
+pub within-holds : (key a : ℕ) → Prefix key → network key ≤ a → a < network key + size (lengthOf key) → holds key a ≡ true
+unfolding holds
+within-holds key a p from to = eq-eqb _ _ (subst (λ x. x - hostBits (lengthOf key) x ≡ network key) there step)
+  where
+    there : network key + (a - network key) ≡ a
+    there = add-sub-of-le from
+
+    step : network key + (a - network key) - hostBits (lengthOf key) (network key + (a - network key)) ≡ network key
+    step =
+        rw (host-bits-past (lengthOf key) (network key) (a - network key) (p .aligned) (omega arith))
+        (add-sub-cancel (network key) (a - network key))
