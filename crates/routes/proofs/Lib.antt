@@ -1,0 +1,4 @@
+pub mod Row
+pub mod WellFormed
+pub mod Plain
+pub mod Change

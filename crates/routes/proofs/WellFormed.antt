@@ -1,0 +1,70 @@
+-- What a well-formed list's rows are, row by row: prefixes, hops that aren't 0, and each key below those after it.
+-- Assumes nothing.
+use mathlib.Core.Path.{_≡_, refl, sym, ap, _∙_, subst}
+use mathlib.Core.Logic.{_⊎_, inl, inr, ⊎-elim}
+use mathlib.Core.Bool.{Bool, true, false, not, _&&_}
+use mathlib.Core.List.{List, [], _∷_, List·Memᴰ, List·Memᴰ·head, List·Memᴰ·tail, List·Memᴰ·cases-cons, List·Memᴰ·not-nil}
+use Prim.Native.Nat.{ℕ, _<_, _≤_}
+use native.Mathlib.Nat.{lt-trans, lt-irrefl}
+use native.Mathlib.Omega.{arith}
+use borrow.Author.Tests.{ltb-true, lt-ltb, eqb-false, ne-eqb, eq-eqb}
+use lib.Dec.{ltb, eqb}
+use Rattle.ground.proofs.Truth.{and-left, and-right, and-both, not-true}
+use Rattle.cidr.specs.Prefix.{isPrefix}
+use Rattle.routes.specs.Row.{Row, every}
+use Rattle.routes.specs.WellFormed.{prefixes, hopsGiven, below, ascending, halfRows, goodRows}
+use Rattle.routes.proofs.Row.{Has, every-has, has-every}
+
+-- keys ascend: the first is below every other one
+pub first-below : (r : Row) (rows : List Row) → ascending (r ∷ rows) ≡ true → (s : Row) → Has s rows → r .key < s .key
+unfolding ascending
+first-below r [] e s m = absurd (List·Memᴰ·not-nil m)
+first-below r (t ∷ ts) e s m = ⊎-elim (λ q. subst (λ x. r .key < x .key) (sym q) next) (λ n. lt-trans next (first-below t ts (and-right (below (r .key) (t ∷ ts)) (ascending (t ∷ ts)) e) s n)) (List·Memᴰ·cases-cons m)
+  where
+    next : r .key < t .key
+    next = ltb-true _ _ (and-left (below (r .key) (t ∷ ts)) (ascending (t ∷ ts)) e)
+
+pub ascending-tail : (r : Row) (rows : List Row) → ascending (r ∷ rows) ≡ true → ascending rows ≡ true
+unfolding ascending
+ascending-tail r rows e = and-right (below (r .key) rows) (ascending rows) e
+
+pub ascending-cons : (r : Row) (rows : List Row) → ((s : Row) → Has s rows → r .key < s .key) → ascending rows ≡ true → ascending (r ∷ rows) ≡ true
+unfolding ascending
+ascending-cons r [] h e = refl
+ascending-cons r (t ∷ ts) h e = and-both (lt-ltb _ _ (h t (List·Memᴰ·head refl))) e
+
+-- so a key stands in one row only
+pub one-row : (rows : List Row) → ascending rows ≡ true → (r s : Row) → Has r rows → Has s rows → r .key ≡ s .key → r ≡ s
+one-row [] a r s m n e = absurd (List·Memᴰ·not-nil m)
+one-row (t ∷ ts) a r s m n e = go (List·Memᴰ·cases-cons m) (List·Memᴰ·cases-cons n) (one-row ts (ascending-tail t ts a) r s)
+  where
+    go : (r ≡ t) ⊎ Has r ts → (s ≡ t) ⊎ Has s ts → (Has r ts → Has s ts → r .key ≡ s .key → r ≡ s) → r ≡ s
+    go (inl q) (inl q′) rec = q ∙ sym q′
+    go (inl q) (inr n′) rec = absurd (lt-irrefl _ (subst (λ x. x < s .key) (ap (λ x. x .key) (sym q) ∙ e) (first-below t ts a s n′)))
+    go (inr m′) (inl q) rec = absurd (lt-irrefl _ (subst (λ x. x < r .key) (ap (λ x. x .key) (sym q) ∙ sym e) (first-below t ts a r m′)))
+    go (inr m′) (inr n′) rec = rec m′ n′ e
+
+-- the parts of a list that 11 lets pass
+pub record Good (rows : List Row) : Type 0 where
+  pub prefixed : (r : Row) → Has r rows → isPrefix (r .key) ≡ true
+  pub given : (r : Row) → Has r rows → r .hop ≡ 0 → ⊥
+  pub ascends : ascending rows ≡ true
+
+module _ (rows : List Row) (e : goodRows rows ≡ true) where
+  rest : halfRows rows ≡ true
+  unfolding goodRows
+  rest = and-right (hopsGiven rows) (halfRows rows) e
+
+  pub good-parts : Good rows
+  unfolding goodRows halfRows prefixes hopsGiven
+  good-parts = record {
+    prefixed = every-has (λ r. isPrefix (r .key)) rows (and-left (prefixes rows) (ascending rows) rest);
+    given = λ r m. eqb-false _ _ (not-true _ (every-has (λ r. not (eqb (r .hop) 0)) rows (and-left (hopsGiven rows) (halfRows rows) e) r m));
+    ascends = and-right (prefixes rows) (ascending rows) rest;
+  }
+
+pub parts-good : (rows : List Row) → Good rows → goodRows rows ≡ true
+unfolding goodRows halfRows prefixes hopsGiven
+parts-good rows g =
+    and-both (has-every (λ r. not (eqb (r .hop) 0)) rows (λ r m. ap not (ne-eqb _ _ (g .given r m))))
+    (and-both (has-every (λ r. isPrefix (r .key)) rows (g .prefixed)) (g .ascends))
