@@ -9,29 +9,30 @@ use lib.ListN.{length, getD}
 use lib.Dec.{leb, ltb, eqb}
 use Rattle.cidr.specs.Prefix.{dotted, keyOf, hostBits}
 use Rattle.ground.specs.Numbers.{check, firstFault}
+use Rattle.feed.specs.Rows.{dot, slash, space, digit0, digit9}
 
 -- the row numbers
-abbrev pub taken : ℕ
-taken = 0
+abbrev pub rowTaken : ℕ
+rowTaken = 0
 
-abbrev pub badShape : ℕ
-badShape = 1
+abbrev pub rowShape : ℕ
+rowShape = 1
 
-abbrev pub badRange : ℕ
-badRange = 2
+abbrev pub rowRange : ℕ
+rowRange = 2
 
-abbrev pub badHostBits : ℕ
-badHostBits = 3
+abbrev pub rowHostBits : ℕ
+rowHostBits = 3
 
-abbrev pub repeated : ℕ
-repeated = 4
+abbrev pub rowRepeat : ℕ
+rowRepeat = 4
 
-abbrev pub noRoomLeft : ℕ
-noRoomLeft = 5
+abbrev pub rowNoRoom : ℕ
+rowNoRoom = 5
 
 -- a digit is a byte from '0' to '9'
 abbrev pub isDigit : ℕ → Bool
-isDigit b = leb 48 b && leb b 57
+isDigit b = leb digit0 b && leb b digit9
 
 abbrev pub digitIf : Bool → ℕ → List ℕ → List ℕ
 digitIf true b ds = b ∷ ds
@@ -61,7 +62,7 @@ field m b = record { most = m; mark = b }
 -- the form `a.b.c.d/len hop`: four octets, three with '.' and one with '/' after it, and the length with a space after it;
 -- then the hop, after which the row ends
 abbrev pub form : List Field
-form = field 3 46 ∷ field 3 46 ∷ field 3 46 ∷ field 3 47 ∷ field 2 32 ∷ []
+form = field 3 dot ∷ field 3 dot ∷ field 3 dot ∷ field 3 slash ∷ field 2 space ∷ []
 
 abbrev pub hopDigits : ℕ
 hopDigits = 5
@@ -82,51 +83,51 @@ joined true ds (some more) = some (ds ∷ more)
 joined false ds more = none
 
 -- the digits of each number of a row, where the whole row is of the form
-unfoldable pub numbersOf : List Field → List ℕ → Option (List (List ℕ))
-numbersOf [] bs = cond (isNumber hopDigits (digits bs) && isEnd (afterDigits bs)) (some (digits bs ∷ [])) none
-numbersOf (f ∷ fs) bs =
+unfoldable pub fieldsOf : List Field → List ℕ → Option (List (List ℕ))
+fieldsOf [] bs = cond (isNumber hopDigits (digits bs) && isEnd (afterDigits bs)) (some (digits bs ∷ [])) none
+fieldsOf (f ∷ fs) bs =
     elim (afterMark (f .mark) (afterDigits bs)) [
       | none ↦ none
-      | some rest ↦ joined (isNumber (f .most) (digits bs)) (digits bs) (numbersOf fs rest)
+      | some rest ↦ joined (isNumber (f .most) (digits bs)) (digits bs) (fieldsOf fs rest)
     ]
 
 -- the value of digits, read as decimal from the first on
 unfoldable pub valueFrom : ℕ → List ℕ → ℕ
 valueFrom v [] = v
-valueFrom v (d ∷ ds) = valueFrom (v * 10 + (d - 48)) ds
+valueFrom v (d ∷ ds) = valueFrom (v * 10 + (d - digit0)) ds
 
 -- the value of the number at a place of the form: octets at 0 to 3, the length at 4, the hop at 5
-unfoldable pub at : List (List ℕ) → ℕ → ℕ
-at ns i = valueFrom 0 (getD ns i [])
+unfoldable pub fieldAt : List (List ℕ) → ℕ → ℕ
+fieldAt ns i = valueFrom 0 (getD ns i [])
 
 abbrev pub addressOf : List (List ℕ) → ℕ
-addressOf ns = dotted (at ns 0) (at ns 1) (at ns 2) (at ns 3)
+addressOf ns = dotted (fieldAt ns 0) (fieldAt ns 1) (fieldAt ns 2) (fieldAt ns 3)
 
 -- "range: an octet over 255, length over 32, hop 0 or over 65,535"
 unfoldable pub outOfRange : List (List ℕ) → Bool
 outOfRange ns =
-    (ltb 255 (at ns 0) || ltb 255 (at ns 1) || ltb 255 (at ns 2) || ltb 255 (at ns 3))
-    || ltb 32 (at ns 4)
-    || (eqb (at ns 5) 0 || ltb 65535 (at ns 5))
+    (ltb 255 (fieldAt ns 0) || ltb 255 (fieldAt ns 1) || ltb 255 (fieldAt ns 2) || ltb 255 (fieldAt ns 3))
+    || ltb 32 (fieldAt ns 4)
+    || (eqb (fieldAt ns 5) 0 || ltb 65535 (fieldAt ns 5))
 
 -- "host bits: a bit of the address beyond the length is 1"
 unfoldable pub hasHostBits : List (List ℕ) → Bool
-hasHostBits ns = not (eqb (hostBits (at ns 4) (addressOf ns)) 0)
+hasHostBits ns = not (eqb (hostBits (fieldAt ns 4) (addressOf ns)) 0)
 
 -- what a row says by itself: a prefix, as its key, with a hop, or its number 1, 2 or 3
 pub data Reading : Type 0 where
   good : ℕ → ℕ → Reading
   bad : ℕ → Reading
 
--- the first fault of six numbers that are of the form
+-- the number of the first fault of six numbers that are of the form; 0, as of a row that is taken, where there is none
 unfoldable pub numberFault : List (List ℕ) → ℕ
-numberFault ns = firstFault (check (outOfRange ns) badRange ∷ check (hasHostBits ns) badHostBits ∷ [])
+numberFault ns = firstFault (check (outOfRange ns) rowRange ∷ check (hasHostBits ns) rowHostBits ∷ [])
 
 unfoldable pub judged : Option (List (List ℕ)) → Reading
-judged none = bad badShape
+judged none = bad rowShape
 judged (some ns) =
-    cond (eqb (numberFault ns) 0) (good (keyOf (addressOf ns) (at ns 4)) (at ns 5)) (bad (numberFault ns))
+    cond (eqb (numberFault ns) 0) (good (keyOf (addressOf ns) (fieldAt ns 4)) (fieldAt ns 5)) (bad (numberFault ns))
 
 -- the reading of a row: the whole row's shape first, then its values
 unfoldable pub readRow : List ℕ → Reading
-readRow bytes = judged (numbersOf form bytes)
+readRow bytes = judged (fieldsOf form bytes)

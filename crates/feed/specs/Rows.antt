@@ -6,8 +6,24 @@ use mathlib.Core.List.{List, [], _∷_}
 use Prim.Native.Nat.{ℕ}
 use lib.Dec.{eqb}
 
+-- the bytes that a row's form names: LF, '.', '/', space, and the digits from '0' to '9'
 abbrev pub LF : ℕ
 LF = 10
+
+abbrev pub dot : ℕ
+dot = 46
+
+abbrev pub slash : ℕ
+slash = 47
+
+abbrev pub space : ℕ
+space = 32
+
+abbrev pub digit0 : ℕ
+digit0 = 48
+
+abbrev pub digit9 : ℕ
+digit9 = 57
 
 -- the rows with one byte more in front of the first of them; where there is no row yet the byte begins one
 abbrev pub grown : ℕ → List (List ℕ) → List (List ℕ)

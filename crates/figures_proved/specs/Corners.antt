@@ -5,13 +5,13 @@ use Prim.Native.Nat.{ℕ, _^_}
 use lib.ListN.{length, getD}
 use Rattle.ground.specs.Halving.{halving}
 use Rattle.cidr.specs.Prefix.{dotted, size, isPrefix, holds, keyOf}
-use Rattle.routes.specs.Row.{Row, keysOf, hopsOf, room}
+use Rattle.routes.specs.Row.{Row, keysOf, hopsOf, listRoom}
 use Rattle.routes.specs.WellFormed.{goodRows, halfRows, wellFormed}
 use Rattle.routes.specs.Plain.{plain}
 use Rattle.routes.specs.Change.{announced, withdrawn}
 use Rattle.routes.specs.Lookup.{lookupNumber, lookupHop, halfNumber}
 use Rattle.feed.specs.Rows.{rowsIn}
-use Rattle.feed.specs.Import.{numbers, imported, importNumber, importReport, importKeys}
+use Rattle.feed.specs.Import.{rowNumbers, imported, importNumber, importReport, importKeys}
 use Rattle.feed.specs.Pull.{pull}
 use Rattle.runs.specs.Bytes.{runBytes}
 use Rattle.runs.specs.Lookup.{runNumber, runHop, runProbes, hostAnswer}
@@ -19,7 +19,8 @@ use Rattle.segment.specs.Packed.{width, wordsOf, basesOf, packedHopsOf}
 use Rattle.segment.specs.Lookup.{packedNumber, packedHop}
 use Rattle.split.specs.Split.{secondHalf}
 use Rattle.text.specs.Text.{textOf}
-use Rattle.figures_proved.specs.Figure.{Figure, figure, one, passes, fails, bytes, prefix, route}
+use Rattle.text.specs.Program.{bytes}
+use Rattle.figures_proved.specs.Figure.{Figure, figure, one, passes, fails, prefix, route}
 use Rattle.figures_proved.specs.Marked.{listA, q}
 
 -- the three widest and narrowest prefixes, as a list
@@ -28,7 +29,7 @@ ends = route 0 0 0 0 0 9 ∷ route 128 0 0 0 1 8 ∷ route 255 255 255 255 32 7 
 
 -- the numbers that the rows of a text get in a roomy import
 abbrev pub numbered : List ℕ → List ℕ
-numbered feed = numbers 1024 feed
+numbered feed = rowNumbers 1024 feed
 
 -- a good row with these bytes after it, a row of its own
 abbrev pub tailed : List ℕ → List ℕ
@@ -54,7 +55,7 @@ corners =
     ∷ passes (wellFormed 0 [] [])
     ∷ one (plain [] (dotted 10 0 0 0)) 0
     ∷ one (width q []) 0
-    ∷ figure (wordsOf [] q ++ (basesOf [] q ++ packedHopsOf [] q)) (32768 ∷ 0 ∷ 0 ∷ [])
+    ∷ figure (wordsOf q [] ++ (basesOf q [] ++ packedHopsOf q [])) (32768 ∷ 0 ∷ 0 ∷ [])
     ∷ figure (textOf []) []
     -- a key of 2^38, and length fields of 33 and 63, are no prefixes
     ∷ fails (isPrefix (2 ^ 38))
@@ -89,9 +90,9 @@ corners =
     ∷ figure (numbered (tailed (32 ∷ []))) (1 ∷ [])
     ∷ figure (numbered (bytes "10.0.0.0/8  7\n 10.0.0.0/8 7\n10.0.0.0/8\n10.0.0/8 7\n")) (1 ∷ 1 ∷ 1 ∷ 1 ∷ [])
     -- room 0 and room 1: a prefix refused for room is refused so again; a repeat comes before no room
-    ∷ one (room [] (1 ∷ [])) 0
-    ∷ figure (numbers 0 (bytes "10.0.0.0/8 7\n10.0.0.0/8 7\n")) (5 ∷ 5 ∷ [])
-    ∷ figure (numbers 1 (bytes "10.0.0.0/8 7\n11.0.0.0/8 7\n10.0.0.0/8 9\n11.0.0.0/8 7\n")) (0 ∷ 5 ∷ 4 ∷ 5 ∷ [])
+    ∷ one (listRoom [] (1 ∷ [])) 0
+    ∷ figure (rowNumbers 0 (bytes "10.0.0.0/8 7\n10.0.0.0/8 7\n")) (5 ∷ 5 ∷ [])
+    ∷ figure (rowNumbers 1 (bytes "10.0.0.0/8 7\n11.0.0.0/8 7\n10.0.0.0/8 9\n11.0.0.0/8 7\n")) (0 ∷ 5 ∷ 4 ∷ 5 ∷ [])
     -- the list stands in key order, and slots past it stay
     ∷ figure (keysOf (imported 9 (bytes "10.0.0.0/8 7\n9.0.0.0/8 5\n10.0.0.0/16 6\n")))
     (prefix 9 0 0 0 8 ∷ prefix 10 0 0 0 8 ∷ prefix 10 0 0 0 16 ∷ [])

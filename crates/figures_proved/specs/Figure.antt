@@ -3,8 +3,6 @@
 use mathlib.Core.Bool.{Bool, true, false, _&&_}
 use mathlib.Core.List.{List, [], _∷_}
 use Prim.Native.Nat.{ℕ}
-use Prim.Native.Char.{code}
-use Prim.Native.String.{String, [] as no-text, _∷_ as _then_}
 use Rattle.ground.specs.Slots.{same}
 use Rattle.cidr.specs.Prefix.{dotted, keyOf}
 use Rattle.routes.specs.Row.{Row, row}
@@ -35,11 +33,6 @@ fails b = one (asNumber b) 0
 unfoldable pub allHold : List Figure → Bool
 allHold [] = true
 allHold (f ∷ fs) = same (f .computed) (f .stated) && allHold fs
-
--- the bytes of a text
-abbrev pub bytes : String → List ℕ
-bytes no-text = []
-bytes (_then_ c s) = code c ∷ bytes s
 
 -- the prefix a.b.c.d/len, and a row of it
 abbrev pub prefix : ℕ → ℕ → ℕ → ℕ → ℕ → ℕ

@@ -8,8 +8,9 @@ use Rattle.routes.specs.Plain.{plain}
 use Rattle.routes.specs.Change.{announced, withdrawn}
 use Rattle.segment.specs.Packed.{width, wordsOf, basesOf, packedHopsOf}
 use Rattle.split.specs.Split.{secondHalf}
-use Rattle.feed.specs.Import.{numbers}
-use Rattle.figures_proved.specs.Figure.{Figure, figure, one, bytes, prefix, route}
+use Rattle.feed.specs.Import.{rowNumbers}
+use Rattle.text.specs.Program.{bytes}
+use Rattle.figures_proved.specs.Figure.{Figure, figure, one, prefix, route}
 
 -- "List A (prefixes of 004)"
 abbrev pub listA : List Row
@@ -52,21 +53,21 @@ marked =
     ∷ one (plain listA (dotted 200 25 255 255)) 1
     -- Segment 51,227: w 4, word 35,265, base 0, hops 3 1 2 1 3 2.
     ∷ one (width q listA) 4
-    ∷ figure (wordsOf listA q) (35265 ∷ [])
-    ∷ figure (basesOf listA q) (0 ∷ [])
-    ∷ figure (packedHopsOf listA q) (3 ∷ 1 ∷ 2 ∷ 1 ∷ 3 ∷ 2 ∷ [])
+    ∷ figure (wordsOf q listA) (35265 ∷ [])
+    ∷ figure (basesOf q listA) (0 ∷ [])
+    ∷ figure (packedHopsOf q listA) (3 ∷ 1 ∷ 2 ∷ 1 ∷ 3 ∷ 2 ∷ [])
     -- With 200.27.240.0/21 hop 2 added: w 5, words 32,898 and 40,962, bases 0 and 3, same hops.
     ∷ one (width q with21) 5
-    ∷ figure (wordsOf with21 q) (32898 ∷ 40962 ∷ [])
-    ∷ figure (basesOf with21 q) (0 ∷ 3 ∷ [])
-    ∷ figure (packedHopsOf with21 q) (3 ∷ 1 ∷ 2 ∷ 1 ∷ 3 ∷ 2 ∷ [])
+    ∷ figure (wordsOf q with21) (32898 ∷ 40962 ∷ [])
+    ∷ figure (basesOf q with21) (0 ∷ 3 ∷ [])
+    ∷ figure (packedHopsOf q with21) (3 ∷ 1 ∷ 2 ∷ 1 ∷ 3 ∷ 2 ∷ [])
     -- A without 200.27.64.0/18: word of that segment 33,217.
-    ∷ figure (wordsOf without18 q) (33217 ∷ [])
+    ∷ figure (wordsOf q without18) (33217 ∷ [])
     -- A with 200.27.224.0/19 hop 1: word 35,267, hops 3 1 2 1 3 1 2.
-    ∷ figure (wordsOf with19 q) (35267 ∷ [])
-    ∷ figure (packedHopsOf with19 q) (3 ∷ 1 ∷ 2 ∷ 1 ∷ 3 ∷ 1 ∷ 2 ∷ [])
+    ∷ figure (wordsOf q with19) (35267 ∷ [])
+    ∷ figure (packedHopsOf q with19) (3 ∷ 1 ∷ 2 ∷ 1 ∷ 3 ∷ 1 ∷ 2 ∷ [])
     -- A with 0.0.0.0/0 hop 4, k 4: second half labels 0 2 1 2 1.
     ∷ figure (hopsOf (secondHalf 4 withDefault)) (0 ∷ 2 ∷ 1 ∷ 2 ∷ 1 ∷ [])
     -- The program's five rows are numbered 0 3 4 1 2.
-    ∷ figure (numbers 1024 fiveRows) (0 ∷ 3 ∷ 4 ∷ 1 ∷ 2 ∷ [])
+    ∷ figure (rowNumbers 1024 fiveRows) (0 ∷ 3 ∷ 4 ∷ 1 ∷ 2 ∷ [])
     ∷ []

@@ -1,6 +1,6 @@
--- "Numbers that a call returns": each number's name, and the order in which a call's checks run.
+-- "Numbers that a call returns": each number's name, the order of a call's checks, and what a refusal returns.
 -- Assumes nothing.
-use mathlib.Core.Bool.{Bool, cond}
+use mathlib.Core.Bool.{Bool, true, false, cond}
 use mathlib.Core.List.{List, [], _∷_}
 use Prim.Native.Nat.{ℕ}
 use lib.Dec.{eqb}
@@ -53,11 +53,31 @@ pub record Check : Type 0 where
 abbrev pub check : Bool → ℕ → Check
 check b n = record { fault = b; gives = n }
 
--- "Checks run in this order": the number of the first fault that is there, and 0 where none is ("Nothing is refused otherwise")
+-- the number of the first fault that is there, and 0 where none is ("Nothing is refused otherwise")
 unfoldable pub firstFault : List Check → ℕ
 firstFault [] = done
 firstFault (c ∷ cs) = cond (c .fault) (c .gives) (firstFault cs)
 
+-- "Checks run in this order where a call has them: 15, 11, 14, 16, 17, 18, 19, 12, 13."
+abbrev pub checkOrder : List ℕ
+checkOrder =
+    badEdit ∷ illFormed ∷ notItsRuns ∷ notListed ∷ badSize ∷ noDefault ∷ outsidePacked ∷ reportShort ∷ noRoom ∷ []
+
+-- the checks after those at the front that give this number
+unfoldable pub past : ℕ → List Check → List Check
+past n [] = []
+past n (c ∷ cs) = cond (eqb (c .gives) n) (past n cs) (c ∷ cs)
+
+-- the checks give numbers of this list in its order; several checks may give one number
+unfoldable pub inOrder : List ℕ → List Check → Bool
+inOrder [] [] = true
+inOrder [] (c ∷ cs) = false
+inOrder (n ∷ ns) cs = inOrder ns (past n cs)
+
+-- what a call with this number leaves or returns: one thing where it was accepted, another where it was refused
+abbrev pub ifAccepted {ℓ} : {A : Type ℓ} → ℕ → A → A → A
+ifAccepted number accepted refused = cond (eqb number done) accepted refused
+
 -- "A refusal returns 0 for each other number"
 unfoldable pub ifDone : ℕ → ℕ → ℕ
-ifDone number value = cond (eqb number done) value 0
+ifDone number value = ifAccepted number value 0

@@ -46,5 +46,5 @@ abbrev pub topRoom : ℕ
 topRoom = 1048576
 
 -- "Room is the lesser of the two slice lengths, at most 1,048,576 rows."
-unfoldable pub room : List ℕ → List ℕ → ℕ
-room keys hops = min (min (length keys) (length hops)) topRoom
+unfoldable pub listRoom : List ℕ → List ℕ → ℕ
+listRoom keys hops = min (min (length keys) (length hops)) topRoom

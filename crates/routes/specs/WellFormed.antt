@@ -5,13 +5,13 @@ use mathlib.Core.List.{List, [], _∷_}
 use Prim.Native.Nat.{ℕ}
 use lib.Dec.{leb, ltb, eqb}
 use Rattle.cidr.specs.Prefix.{isPrefix}
-use Rattle.routes.specs.Row.{Row, rowsOf, every, room}
+use Rattle.routes.specs.Row.{Row, rowsOf, every, listRoom}
 
 -- every key is a prefix
 unfoldable pub prefixes : List Row → Bool
 prefixes rows = every (λ r. isPrefix (r .key)) rows
 
--- no hop is 0
+-- no hop is 0 ("A hop is 1 to 65,535": a hop lies in a u16 slot, so it can't be above)
 unfoldable pub hopsGiven : List Row → Bool
 hopsGiven rows = every (λ r. not (eqb (r .hop) 0)) rows
 
@@ -35,8 +35,8 @@ goodRows rows = hopsGiven rows && halfRows rows
 
 -- the count is within the lesser slice and the top room, and the rows are what they must be
 unfoldable pub wellFormed : ℕ → List ℕ → List ℕ → Bool
-wellFormed count keys hops = leb count (room keys hops) && goodRows (rowsOf count keys hops)
+wellFormed count keys hops = leb count (listRoom keys hops) && goodRows (rowsOf count keys hops)
 
 -- the same for a half
 unfoldable pub halfFormed : ℕ → List ℕ → List ℕ → Bool
-halfFormed count keys hops = leb count (room keys hops) && halfRows (rowsOf count keys hops)
+halfFormed count keys hops = leb count (listRoom keys hops) && halfRows (rowsOf count keys hops)

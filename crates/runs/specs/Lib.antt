@@ -1,4 +1,5 @@
 pub mod Table
 pub mod Build
+pub mod Pair
 pub mod Bytes
 pub mod Lookup

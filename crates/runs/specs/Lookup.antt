@@ -6,7 +6,7 @@ use mathlib.Core.List.{List, [], _∷_}
 use Prim.Native.Nat.{ℕ, _+_, _*_, _/_, _%_, min}
 use lib.ListN.{length, getD}
 use lib.Dec.{ltb, eqb}
-use Rattle.ground.specs.Numbers.{check, firstFault, ifDone, illFormed}
+use Rattle.ground.specs.Numbers.{Check, check, firstFault, ifDone, illFormed}
 use Rattle.ground.specs.Halving.{Halved, halving}
 use Rattle.runs.specs.Bytes.{startAt, hopAt}
 
@@ -14,8 +14,11 @@ use Rattle.runs.specs.Bytes.{startAt, hopAt}
 unfoldable pub inSlices : ℕ → List ℕ → ℕ → Halved
 inSlices n starts a = halving (λ i. getD starts i 0) n a
 
+unfoldable pub runChecks : ℕ → List ℕ → List ℕ → List Check
+runChecks n starts hops = check (eqb n 0 || ltb (min (length starts) (length hops)) n) illFormed ∷ []
+
 unfoldable pub runNumber : ℕ → List ℕ → List ℕ → ℕ
-runNumber n starts hops = firstFault (check (eqb n 0 || ltb (min (length starts) (length hops)) n) illFormed ∷ [])
+runNumber n starts hops = firstFault (runChecks n starts hops)
 
 unfoldable pub runHop : ℕ → List ℕ → List ℕ → ℕ → ℕ
 runHop n starts hops a = ifDone (runNumber n starts hops) (getD hops (inSlices n starts a .low) 0)
@@ -27,8 +30,11 @@ runProbes n starts hops a = ifDone (runNumber n starts hops) (inSlices n starts 
 unfoldable pub inBytes : List ℕ → ℕ → Halved
 inBytes bytes a = halving (startAt bytes) (length bytes / 6) a
 
+unfoldable pub hostChecks : List ℕ → List Check
+hostChecks bytes = check (eqb (length bytes) 0 || not (eqb (length bytes % 6) 0)) illFormed ∷ []
+
 unfoldable pub hostNumber : List ℕ → ℕ
-hostNumber bytes = firstFault (check (eqb (length bytes) 0 || not (eqb (length bytes % 6) 0)) illFormed ∷ [])
+hostNumber bytes = firstFault (hostChecks bytes)
 
 unfoldable pub hostHop : List ℕ → ℕ → ℕ
 hostHop bytes a = ifDone (hostNumber bytes) (hopAt bytes (inBytes bytes a .low))

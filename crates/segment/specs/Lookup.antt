@@ -8,7 +8,7 @@ use Prim.Native.Nat.{ℕ, _+_, _-_, _/_, _%_, _^_}
 use lib.ListN.{length, getD}
 use lib.Dec.{leb, ltb, eqb}
 use lib.Count.{ones}
-use Rattle.ground.specs.Numbers.{check, firstFault, ifDone, outsidePacked}
+use Rattle.ground.specs.Numbers.{Check, check, firstFault, ifDone, outsidePacked}
 
 -- the block of an address: its low 16 bits, divided by the size of a block
 unfoldable pub blockOf : ℕ → ℕ → ℕ
@@ -23,13 +23,15 @@ unfoldable pub pastPlace : ℕ → List ℕ → List ℕ → ℕ → ℕ
 pastPlace w words bases a =
     getD bases (blockOf w a / 16) 0 + onesTo (getD words (blockOf w a / 16) 0) (blockOf w a)
 
-unfoldable pub packedNumber : ℕ → List ℕ → List ℕ → List ℕ → ℕ → ℕ
-packedNumber w words bases hops a =
-    firstFault
-    (check (ltb 16 w) outsidePacked
+unfoldable pub packedChecks : ℕ → List ℕ → List ℕ → List ℕ → ℕ → List Check
+packedChecks w words bases hops a =
+    check (ltb 16 w) outsidePacked
     ∷ check (leb (length words) (blockOf w a / 16) || leb (length bases) (blockOf w a / 16)) outsidePacked
     ∷ check (eqb (pastPlace w words bases a) 0 || ltb (length hops) (pastPlace w words bases a)) outsidePacked
-    ∷ [])
+    ∷ []
+
+unfoldable pub packedNumber : ℕ → List ℕ → List ℕ → List ℕ → ℕ → ℕ
+packedNumber w words bases hops a = firstFault (packedChecks w words bases hops a)
 
 unfoldable pub packedHop : ℕ → List ℕ → List ℕ → List ℕ → ℕ → ℕ
 packedHop w words bases hops a =

@@ -1,21 +1,23 @@
 -- "The writer puts rows in list order, no leading zeros, LF after each .. 13 exactly if the text is longer than the buffer; bytes beyond
 -- the text stay."
 -- Assumes nothing.
-use mathlib.Core.Bool.{Bool, true, false, not, cond}
+use mathlib.Core.Bool.{Bool, true, false, not}
 use mathlib.Core.List.{List, [], _∷_, _++_}
 use Prim.Native.Nat.{ℕ, zero, suc, _+_, _/_, _%_}
 use lib.ListN.{length}
-use lib.Dec.{ltb, eqb}
-use Rattle.ground.specs.Numbers.{check, firstFault, illFormed, noRoom}
+use lib.Dec.{ltb}
+use Rattle.ground.specs.Numbers.{Check, check, firstFault, ifDone, ifAccepted, illFormed, noRoom}
 use Rattle.ground.specs.Slots.{written}
 use Rattle.cidr.specs.Prefix.{network, lengthOf}
 use Rattle.routes.specs.Row.{Row, rowsOf}
 use Rattle.routes.specs.WellFormed.{wellFormed}
+use Rattle.feed.specs.Rows.{LF, dot, slash, space, digit0}
 
--- A number's decimal digits, no leading zeros. `most` bounds how many there are; a number has fewer digits than itself plus one.
+-- A number's decimal digits, no leading zeros. `more` bounds how many stand before the last one; n itself is enough.
 unfoldable pub decimalBy : ℕ → ℕ → List ℕ
-decimalBy zero n = (48 + n) ∷ []
-decimalBy (suc most) n = elim (ltb n 10) [ true ↦ (48 + n) ∷ [] | false ↦ decimalBy most (n / 10) ++ (48 + n % 10) ∷ [] ]
+decimalBy zero n = (digit0 + n) ∷ []
+decimalBy (suc more) n =
+    elim (ltb n 10) [ true ↦ (digit0 + n) ∷ [] | false ↦ decimalBy more (n / 10) ++ (digit0 + n % 10) ∷ [] ]
 
 unfoldable pub decimal : ℕ → List ℕ
 decimal n = decimalBy n n
@@ -24,27 +26,32 @@ decimal n = decimalBy n n
 unfoldable pub dottedText : ℕ → List ℕ
 dottedText a =
     decimal (a / 16777216)
-    ++ 46 ∷ decimal (a / 65536 % 256)
-    ++ 46 ∷ decimal (a / 256 % 256)
-    ++ 46 ∷ decimal (a % 256)
+    ++ dot ∷ decimal (a / 65536 % 256)
+    ++ dot ∷ decimal (a / 256 % 256)
+    ++ dot ∷ decimal (a % 256)
 
 -- a row as `a.b.c.d/len hop` and an LF
 unfoldable pub rowText : Row → List ℕ
-rowText r = dottedText (network (r .key)) ++ 47 ∷ decimal (lengthOf (r .key)) ++ 32 ∷ decimal (r .hop) ++ 10 ∷ []
+rowText r = dottedText (network (r .key)) ++ slash ∷ decimal (lengthOf (r .key)) ++ space ∷ decimal (r .hop) ++ LF ∷ []
 
 -- the text of a list: its rows in list order
 unfoldable pub textOf : List Row → List ℕ
 textOf [] = []
 textOf (r ∷ rs) = rowText r ++ textOf rs
 
--- what the list writer returns, and what it leaves in the buffer
-unfoldable pub writeNumber : ℕ → List ℕ → List ℕ → List ℕ → ℕ
-writeNumber count keys hops buffer =
-    firstFault
-    (check (not (wellFormed count keys hops)) illFormed
+-- what the list writer returns, its number and how many bytes it wrote, and what it leaves in the buffer
+unfoldable pub writeChecks : ℕ → List ℕ → List ℕ → List ℕ → List Check
+writeChecks count keys hops buffer =
+    check (not (wellFormed count keys hops)) illFormed
     ∷ check (ltb (length buffer) (length (textOf (rowsOf count keys hops)))) noRoom
-    ∷ [])
+    ∷ []
+
+unfoldable pub writeNumber : ℕ → List ℕ → List ℕ → List ℕ → ℕ
+writeNumber count keys hops buffer = firstFault (writeChecks count keys hops buffer)
+
+unfoldable pub writeLength : ℕ → List ℕ → List ℕ → List ℕ → ℕ
+writeLength count keys hops buffer = ifDone (writeNumber count keys hops buffer) (length (textOf (rowsOf count keys hops)))
 
 unfoldable pub writeBuffer : ℕ → List ℕ → List ℕ → List ℕ → List ℕ
 writeBuffer count keys hops buffer =
-    cond (eqb (writeNumber count keys hops buffer) 0) (written (textOf (rowsOf count keys hops)) buffer) buffer
+    ifAccepted (writeNumber count keys hops buffer) (written (textOf (rowsOf count keys hops)) buffer) buffer

@@ -1,0 +1,53 @@
+-- "The program reads at most 16,384 bytes from standard input (more: the one line `feed too long`), with room for 1,024 rows." What it writes,
+-- as a function of what it is given: the seven counts, a line each, and the run table of the imported list, a line a run.
+-- Assumes nothing.
+use mathlib.Core.Bool.{cond}
+use mathlib.Core.List.{List, [], _∷_, _++_}
+use Prim.Native.Nat.{ℕ}
+use Prim.Native.Char.{code}
+use Prim.Native.String.{String, [] as no-text, _∷_ as _then_}
+use lib.ListN.{length}
+use lib.Dec.{ltb}
+use Rattle.feed.specs.Rows.{LF, space}
+use Rattle.feed.specs.Import.{Counts, rowNumbers, imported, countsOf}
+use Rattle.runs.specs.Table.{runStarts, runHops}
+use Rattle.text.specs.Text.{decimal, dottedText}
+
+-- the bytes of a text
+abbrev pub bytes : String → List ℕ
+bytes no-text = []
+bytes (_then_ c s) = code c ∷ bytes s
+
+abbrev pub longestFeed : ℕ
+longestFeed = 16384
+
+abbrev pub programRoom : ℕ
+programRoom = 1024
+
+-- a line: a name, a space and a number
+unfoldable pub lineOf : List ℕ → ℕ → List ℕ
+lineOf name n = name ++ space ∷ decimal n ++ LF ∷ []
+
+-- the lines of the seven counts
+unfoldable pub countLines : Counts → List ℕ
+countLines c =
+    lineOf (bytes "rows") (c .rows)
+    ++ lineOf (bytes "taken") (c .taken)
+    ++ lineOf (bytes "shape") (c .shape)
+    ++ lineOf (bytes "range") (c .range)
+    ++ lineOf (bytes "hostbits") (c .hostbits)
+    ++ lineOf (bytes "repeat") (c .repeat)
+    ++ lineOf (bytes "noroom") (c .noroom)
+
+-- the lines of a run table: each run's start and hop
+unfoldable pub runLines : List ℕ → List ℕ → List ℕ
+runLines [] hops = []
+runLines (s ∷ starts) [] = []
+runLines (s ∷ starts) (h ∷ hops) = lineOf (dottedText s) h ++ runLines starts hops
+
+unfoldable pub programText : List ℕ → List ℕ
+programText feed =
+    cond (ltb longestFeed (length feed))
+    (bytes "feed too long\n")
+    (countLines (countsOf (rowNumbers programRoom feed))
+    ++ runLines (runStarts (imported programRoom feed)) (runHops (imported programRoom feed)))
