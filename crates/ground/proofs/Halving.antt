@@ -145,9 +145,11 @@ module _ {at : ℕ → ℕ} {n a low high probes : ℕ} (s : Halfway at n a low 
   pub halfway-end : high - low ≤ 1 → halving at n a ≡ record { low = low; probes = probes }
   halfway-end h = s .goes-on (near h) ∙ rw add-zero
 
-  -- so far no more probes are counted than halving makes in all
-  pub halfway-probes : probes ≤ (halving at n a) .probes
-  halfway-probes = rw (s .goes-on (halves-ends at a (high - low) low high (omega arith))) (omega arith)
+  -- the probes counted so far are at most halving's
+  pub halfway-probes : (p : ℕ) → n ≤ 2 ^ p → probes ≤ p
+  halfway-probes p h =
+      let all = s .goes-on (halves-ends at a (high - low) low high (omega arith)) in
+      omega (arith, rw all at (probes-at-most at n a p h))
 
   module _ (mid : ℕ) (half : mid ≡ (low + high) / 2) (far : 1 < high - low) where
     pub halfway-up : at mid ≤ a → Halfway at n a mid high (probes + 1)
