@@ -9,6 +9,7 @@ use lib.ListN.{length}
 use lib.Dec.{eqb}
 pub mod Laws
 pub mod Count
+pub mod Turns
 
 -- the n numbers from lo on
 unfoldable pub stretch : ℕ → ℕ → List ℕ
