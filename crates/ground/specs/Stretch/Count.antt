@@ -2,7 +2,7 @@
 -- Assumes nothing.
 use mathlib.Core.Path.{_≡_, refl, ap, _∙_}
 use mathlib.Core.Bool.{Bool, true, false, cond}
-use mathlib.Core.Logic.{_⊎_, ⊎-elim}
+use mathlib.Core.Logic.{_⊎_, inl, ⊎-elim}
 use mathlib.Core.List.{_∷_, _++_}
 use Prim.Native.Nat.{ℕ, zero, suc, _+_, _-_, _≤_, _<_}
 use native.Mathlib.Omega.{arith}
@@ -55,6 +55,11 @@ counted-or-le p q r lo (suc n) h =
     go : (x y z : Bool) → (x ≡ true → (y ≡ true) ⊎ (z ≡ true)) → cond x 1 0 ≤ cond y 1 0 + cond z 1 0
     go false y z k = omega arith
     go true y z k = ⊎-elim (λ (e : y ≡ true). rw e (omega arith)) (λ (e : z ≡ true). rw e (omega arith)) (k refl)
+
+pub counted-le : (p q : ℕ → Bool) (lo n : ℕ) → ((a : ℕ) → lo ≤ a → a < lo + n → p a ≡ true → q a ≡ true) → counted p lo n ≤ counted q lo n
+counted-le p q lo n h =
+    let never = counted-none (λ a. false) lo n (λ a ge lt. refl) in
+    omega (arith, counted-or-le p q (λ a. false) lo n (λ a ge lt e. inl (h a ge lt e)))
 
 -- at most one number is x
 pub counted-point-le : (x lo n : ℕ) → counted (λ a. eqb a x) lo n ≤ 1

@@ -128,6 +128,14 @@ unput p lo n xs k = record {
   between = λ i a l gt lt next. k .between (suc i) a (omega arith) gt (omega arith) (λ more. rw suc-add (next (omega arith)));
 }
 
+-- a first number that passes is the first of the list
+pub picks-front : (p : ℕ → Bool) (lo n : ℕ) (xs : List ℕ) → Picks p lo n xs → 0 < n → p lo ≡ true → (0 < length xs) × (getD xs 0 0 ≡ lo)
+picks-front p lo n [] k pos e = absurd (false≢true (sym (k .before lo (omega arith) (omega arith) (λ some. absurd (omega arith))) ∙ e))
+picks-front p lo n (x ∷ xs) k pos e = ⊎-elim
+    (λ (q : lo ≡ x). (omega arith, sym q))
+    (λ gt. absurd (false≢true (sym (k .before lo (omega arith) (omega arith) (λ some. gt)) ∙ e)))
+    (eq-or-lt-of-le (k .from 0 (omega arith)))
+
 pub only-picks : (p : ℕ → Bool) (lo n : ℕ) (xs : List ℕ) → Picks p lo n xs → xs ≡ picked p lo n
 only-picks p lo zero [] k = rw picked-none
 only-picks p lo zero (x ∷ xs) k = absurd (omega (arith, k .from 0 (omega arith), k .below 0 (omega arith)))
@@ -136,8 +144,7 @@ only-picks p lo (suc n) xs k = rw picked-suc (go xs k (p lo) refl (λ l. only-pi
     go : (xs : List ℕ) → Picks p lo (suc n) xs → (b : Bool) → p lo ≡ b → ((l : List ℕ) → Picks p (suc lo) n l → l ≡ picked p (suc lo) n)
         → xs ≡ keep b lo (picked p (suc lo) n)
     go xs k false e rest = rest xs (unskip p lo n xs e k)
-    go [] k true e rest = absurd (false≢true (sym (k .before lo (omega arith) (omega arith) (λ some. absurd (omega arith))) ∙ e))
-    go (x ∷ xs) k true e rest = ⊎-elim
-        (λ (q : lo ≡ x). rw (rest xs (unput p lo n xs (rw (← q) at k)), q))
-        (λ gt. absurd (false≢true (sym (k .before lo (omega arith) (omega arith) (λ some. gt)) ∙ e)))
-        (eq-or-lt-of-le (k .from 0 (omega arith)))
+    go [] k true e rest = absurd (omega (arith, picks-front p lo (suc n) [] k (omega arith) e))
+    go (x ∷ xs) k true e rest =
+        let front : x ≡ lo = picks-front p lo (suc n) (x ∷ xs) k (omega arith) e .1 in
+        rw (rest xs (unput p lo n xs (rw front at k)), front)
