@@ -1,6 +1,5 @@
 -- Stretches of numbers: which of them pass a test, and how many. A stretch is its first number lo and how many numbers n it has.
--- A stretch may have 2^32 numbers, so `picked` and `counted` are shut: they are read through `Stretch.Laws`
--- and `Stretch.Count` and never computed.
+-- A stretch may have 2^32 numbers, so `picked` and `counted` are shut: they are read through the laws of the modules below, never computed.
 -- Assumes nothing.
 use mathlib.Core.Bool.{Bool, true, false, not, _||_}
 use mathlib.Core.List.{List, [], _∷_}
@@ -8,6 +7,7 @@ use Prim.Native.Nat.{ℕ, zero, suc, _-_}
 use lib.ListN.{length}
 use lib.Dec.{eqb}
 pub mod Laws
+pub mod Picks
 pub mod Count
 pub mod Turns
 

@@ -1,6 +1,6 @@
 -- The run table of an answer: `startsOf` and `runHopsOf` are one, no other lists are, and that of n rows has at most 2 n + 1 runs.
 -- Assumes nothing.
-use mathlib.Core.Path.{_≡_, refl, sym, ap, _∙_}
+use mathlib.Core.Path.{_≡_, refl, sym, _∙_}
 use mathlib.Core.Bool.{Bool, true, false, _||_, false≢true}
 use mathlib.Core.Logic.{_⊎_, inl, inr}
 use mathlib.Core.List.{List, [], _∷_, map}
@@ -11,14 +11,14 @@ use lib.ListN.{length, getD, length-map}
 use lib.Seq.{ext-getD}
 use lib.Dec.{eqb}
 use borrow.Author.Tests.{eqb-false}
-use Rattle.ground.specs.Stretch.{picked, counted, turns}
-use Rattle.ground.specs.Stretch.Laws.{Picks, picks, picks-front, only-picks}
+use Rattle.ground.specs.Stretch.{counted, turns}
+use Rattle.ground.specs.Stretch.Picks.{Picks, picks, picks-front, only-picks}
 use Rattle.ground.specs.Stretch.Count.{counted-is, counted-le, counted-or-le, counted-point-le}
 use Rattle.ground.specs.Stretch.Turns.{turns-at-zero, turns-of-ne, stays-of-same, same-between-turns}
-use Rattle.cidr.specs.Prefix.{addresses, network, lengthOf, size, holds}
+use Rattle.cidr.specs.Prefix.{addresses, network, lengthOf, size}
 use Rattle.cidr.proofs.Turn.{holds-stays}
 use Rattle.routes.specs.Row.{Row}
-use Rattle.routes.specs.Plain.{matching, keepRow, plain}
+use Rattle.routes.specs.Plain.{matching, plain}
 use Rattle.runs.specs.Table.{RunTable, startsOf, runHopsOf, runStarts}
 use Rattle.runs.specs.Table.Laws.{starts-are}
 
@@ -98,7 +98,8 @@ only-table f starts hops t = (same-starts, rw (← same-starts) same-hops)
     hop-at : (i : ℕ) → i < length hops → getD hops i 0 ≡ getD (map f starts) i 0
     hop-at i l =
         let in-range : i < length starts = omega (arith, t .paired) in
-        t .answers i (getD starts i 0) in-range (omega arith) (t .below i in-range) (λ more. t .ascend i more) ∙ sym (getD-map f starts i in-range)
+        let here = t .answers i (getD starts i 0) in-range (omega arith) (t .below i in-range) (λ more. t .ascend i more) in
+        here ∙ sym (getD-map f starts i in-range)
 
     same-hops : hops ≡ map f starts
     same-hops = ext-getD 0 hops (map f starts) (rw length-map (t .paired)) hop-at

@@ -1,4 +1,4 @@
--- The laws by which `counted` is read: number by number, in two parts, against other counts, and as the place of a number among the picked ones.
+-- The laws by which `counted` is read: number by number, in two parts, against other counts, and as a number's place among the picked ones.
 -- Assumes nothing.
 use mathlib.Core.Path.{_≡_, refl, ap, _∙_}
 use mathlib.Core.Bool.{Bool, true, false, cond}
@@ -72,11 +72,11 @@ counted-point-le x lo (suc n) = simp counted-suc (go (eqb lo x) refl (counted-po
         rw (counted-none (λ a. eqb a x) (suc lo) n (λ a ge lt. ne-eqb a x (λ q. omega (arith, eqb-true lo x e)))) (omega arith)
 
 -- a number that passes stands among the picked ones behind those that pass before it
-pub picked-at : (p : ℕ → Bool) (lo n m : ℕ) → m < n → p (lo + m) ≡ true
-    → (counted p lo m < length (picked p lo n)) × (getD (picked p lo n) (counted p lo m) 0 ≡ lo + m)
-picked-at p lo n m lt e = rw (parts, counted-is) (rw length-append (omega arith), rw getD-append-seam)
+pub picked-at : (p : ℕ → Bool) (lo n m a : ℕ) → a ≡ lo + m → m < n → p a ≡ true
+    → (counted p lo m < length (picked p lo n)) × (getD (picked p lo n) (counted p lo m) 0 ≡ a)
+picked-at p lo n m a is lt e = rw (parts, counted-is) (rw length-append (omega arith), rw getD-append-seam)
   where
-    parts : picked p lo n ≡ picked p lo m ++ (lo + m) ∷ picked p (suc (lo + m)) (n - suc m)
+    parts : picked p lo n ≡ picked p lo m ++ a ∷ picked p (suc a) (n - suc m)
     parts =
         let whole : n ≡ m + suc (n - suc m) = omega arith in
-        ap (picked p lo) whole ∙ picked-cut p lo m (suc (n - suc m)) ∙ rw (picked-suc, e)
+        ap (picked p lo) whole ∙ picked-cut p lo m (suc (n - suc m)) ∙ rw (← is, picked-suc, e)

@@ -1,8 +1,8 @@
--- Where f turns, it differs from what it was one before; where it does not turn, it is the same.
+-- Where f turns, past 0, it differs from what it was one before; where it does not turn, and so from turn to turn, it is the same.
 -- Assumes nothing.
 use mathlib.Core.Path.{_≡_, refl, sym, ap, _∙_}
 use mathlib.Core.Bool.{Bool, true, false, not, _||_}
-use mathlib.Core.Logic.{⊎-elim}
+use mathlib.Core.Logic.{_⊎_, inl, inr}
 use mathlib.Core.List.{List}
 use Prim.Native.Nat.{ℕ, zero, suc, _+_, _-_, _≤_, _<_}
 use native.Mathlib.Nat.{eq-or-lt-of-le}
@@ -11,7 +11,7 @@ use lib.ListN.{length, getD}
 use lib.Dec.{eqb}
 use borrow.Author.Tests.{eqb-true, eq-eqb, ne-eqb}
 use Rattle.ground.specs.Stretch.{turns}
-use Rattle.ground.specs.Stretch.Laws.{Picks}
+use Rattle.ground.specs.Stretch.Picks.{Picks}
 
 module _ (f : ℕ → ℕ) where
   pub turns-at-zero : turns f 0 ≡ true
@@ -44,8 +44,10 @@ module _ (f : ℕ → ℕ) where
       → (i + 1 < length xs → a < getD xs (i + 1) 0) → f (getD xs i 0) ≡ f a
   same-between-turns n xs k i zero l le lt next = ap f (omega arith)
   same-between-turns n xs k i (suc a) l le lt next =
-      let back : suc a - 1 ≡ a = omega arith in
-      let step : getD xs i 0 < suc a → f (getD xs i 0) ≡ f (suc a) = λ gt.
-      same-between-turns n xs k i a l (omega arith) (omega arith) (λ more. omega (arith, next more))
-      ∙ sym (rw back at (same-of-stays (suc a) (k .between i (suc a) l gt (omega arith) next))) in
-      ⊎-elim (ap f) step (eq-or-lt-of-le le)
+      go (λ le. same-between-turns n xs k i a l le (omega arith) (λ more. omega (arith, next more))) (eq-or-lt-of-le le)
+    where
+      go : (getD xs i 0 ≤ a → f (getD xs i 0) ≡ f a) → (getD xs i 0 ≡ suc a) ⊎ (getD xs i 0 < suc a) → f (getD xs i 0) ≡ f (suc a)
+      go rest (inl q) = ap f q
+      go rest (inr gt) =
+          let back : suc a - 1 ≡ a = omega arith in
+          rest (omega arith) ∙ sym (rw back at (same-of-stays (suc a) (k .between i (suc a) l gt (omega arith) next)))
