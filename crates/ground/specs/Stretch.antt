@@ -1,5 +1,5 @@
 -- Stretches of numbers: which of them pass a test, and how many. A stretch is its first number lo and how many numbers n it has.
--- A stretch may have 2^32 numbers, so `picked` and `counted` are shut: they are read through `Stretch.Laws` and never computed.
+-- A stretch may have 2^32 numbers, so `picked` and `counted` are shut: they are read through the laws of the modules below, never computed.
 -- Assumes nothing.
 use mathlib.Core.Bool.{Bool, true, false, not, _||_}
 use mathlib.Core.List.{List, [], _∷_}
@@ -7,6 +7,9 @@ use Prim.Native.Nat.{ℕ, zero, suc, _-_}
 use lib.ListN.{length}
 use lib.Dec.{eqb}
 pub mod Laws
+pub mod Picks
+pub mod Count
+pub mod Turns
 
 -- the n numbers from lo on
 unfoldable pub stretch : ℕ → ℕ → List ℕ

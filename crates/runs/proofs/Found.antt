@@ -12,7 +12,7 @@ use Rattle.ground.proofs.Halving.{low-below, low-at-most, next-above, halving-a
 use Rattle.cidr.specs.Prefix.{addresses}
 use Rattle.runs.specs.Table.{RunTable}
 use Rattle.runs.specs.Bytes.{runBytes, startAt, hopAt}
-use Rattle.runs.specs.Lookup.{inSlices, inBytes, hostNumber, hostHop, hostAnswer}
+use Rattle.runs.specs.Lookup.{inSlices, inBytes, hostChecks, hostNumber, hostHop, hostAnswer}
 
 -- run i holds the address
 pub record RunHolds (starts : List ℕ) (a i : ℕ) : Type 0 where
@@ -83,7 +83,7 @@ module _ (starts hops : List ℕ) (paired : length hops ≡ length starts) where
       (λ i l. start-at starts hops i l (omega arith)))
 
   pub bytes-accepted : 0 < length starts → hostNumber (runBytes starts hops) ≡ 0
-  unfolding hostNumber firstFault
+  unfolding hostNumber hostChecks firstFault
   bytes-accepted some =
       let six : length (runBytes starts hops) ≡ length starts * 6 = run-bytes-length starts hops paired in
       rw (ne-eqb (length (runBytes starts hops)) 0 (omega arith), eq-eqb (length (runBytes starts hops) % 6) 0 (omega arith))

@@ -1,0 +1,53 @@
+-- Where f turns, past 0, it differs from what it was one before; where it does not turn, and so from turn to turn, it is the same.
+-- Assumes nothing.
+use mathlib.Core.Path.{_≡_, refl, sym, ap, _∙_}
+use mathlib.Core.Bool.{Bool, true, false, not, _||_}
+use mathlib.Core.Logic.{_⊎_, inl, inr}
+use mathlib.Core.List.{List}
+use Prim.Native.Nat.{ℕ, zero, suc, _+_, _-_, _≤_, _<_}
+use native.Mathlib.Nat.{eq-or-lt-of-le}
+use native.Mathlib.Omega.{arith}
+use lib.ListN.{length, getD}
+use lib.Dec.{eqb}
+use borrow.Author.Tests.{eqb-true, eq-eqb, ne-eqb}
+use Rattle.ground.specs.Stretch.{turns}
+use Rattle.ground.specs.Stretch.Picks.{Picks}
+
+module _ (f : ℕ → ℕ) where
+  pub turns-at-zero : turns f 0 ≡ true
+  unfolding turns
+  turns-at-zero = refl
+
+  pub turns-of-ne : (a : ℕ) → (f a ≡ f (a - 1) → ⊥) → turns f a ≡ true
+  unfolding turns
+  turns-of-ne a ne = rw (ne-eqb (f a) (f (a - 1)) ne) (go (eqb a 0))
+    where
+      go : (b : Bool) → (b || true) ≡ true
+      go true = refl
+      go false = refl
+
+  pub stays-of-same : (a : ℕ) → 0 < a → f a ≡ f (a - 1) → turns f a ≡ false
+  unfolding turns
+  stays-of-same a pos e = rw (eq-eqb (f a) (f (a - 1)) e, ne-eqb a 0 (λ z. omega arith))
+
+  pub same-of-stays : (a : ℕ) → turns f a ≡ false → f a ≡ f (a - 1)
+  unfolding turns
+  same-of-stays a s = eqb-true (f a) (f (a - 1)) (go (eqb a 0) (eqb (f a) (f (a - 1))) s)
+    where
+      go : (x y : Bool) → (x || not y) ≡ false → y ≡ true
+      go x true e = refl
+      go true false e = sym e
+      go false false e = sym e
+
+  -- from one turn up to the next one f is the same
+  pub same-between-turns : (n : ℕ) (xs : List ℕ) → Picks (turns f) 0 n xs → (i a : ℕ) → i < length xs → getD xs i 0 ≤ a → a < n
+      → (i + 1 < length xs → a < getD xs (i + 1) 0) → f (getD xs i 0) ≡ f a
+  same-between-turns n xs k i zero l le lt next = ap f (omega arith)
+  same-between-turns n xs k i (suc a) l le lt next =
+      go (λ le. same-between-turns n xs k i a l le (omega arith) (λ more. omega (arith, next more))) (eq-or-lt-of-le le)
+    where
+      go : (getD xs i 0 ≤ a → f (getD xs i 0) ≡ f a) → (getD xs i 0 ≡ suc a) ⊎ (getD xs i 0 < suc a) → f (getD xs i 0) ≡ f (suc a)
+      go rest (inl q) = ap f q
+      go rest (inr gt) =
+          let back : suc a - 1 ≡ a = omega arith in
+          rest (omega arith) ∙ sym (rw back at (same-of-stays (suc a) (k .between i (suc a) l gt (omega arith) next)))
