@@ -4,6 +4,7 @@ use lib.Dec.{T}
 use lib.Count.{ones, onesIn}
 use Rattle.ground.specs.Numbers.{firstFault, ifDone}
 use Rattle.ground.specs.Slots.{same, written}
+use Rattle.ground.specs.Column.{ascends}
 use Rattle.ground.specs.Stretch.{stretch, among, turns}
 use Rattle.ground.specs.Halving.{halves, halving}
 use Rattle.cidr.specs.Prefix.{size, hostBits, isPrefix, holds, covers}
@@ -31,5 +32,5 @@ unfolding allHold same firstFault stretch among turns size hostBits holds covers
 marked-hold = tt
 
 pub corners-hold : T (allHold corners)
-unfolding allHold same written firstFault ifDone stretch among turns halves halving size hostBits isPrefix holds covers every those rowsOf listRoom prefixes hopsGiven ascending halfRows goodRows wellFormed halfFormed matching longer longest plain listed announced withdrawn lookupChecks lookupNumber lookupHop halfChecks halfNumber rowsIn digits afterDigits fieldsOf valueFrom fieldAt outOfRange hasHostBits numberFault judged readRow rowNumber listAfter rowNumbersFrom rowNumbers importedFrom imported importChecks importNumber importReport importKeys pullOf pull runBytes startAt hopAt inSlices runChecks runNumber runHop runProbes inBytes hostChecks hostNumber hostHop hostAnswer width blockHop bit wordFrom wordsOf basesFrom basesOf packedHopsOf blockOf onesTo pastPlace packedChecks packedNumber packedHop covering relabelled firstHalf secondHalf decimalBy decimal dottedText rowText textOf ones onesIn
+unfolding allHold same written firstFault ifDone stretch among turns halves halving size hostBits isPrefix holds covers every those rowsOf listRoom prefixes hopsGiven ascends ascending halfRows goodRows wellFormed halfFormed matching longer longest plain listed announced withdrawn lookupChecks lookupNumber lookupHop halfChecks halfNumber rowsIn digits afterDigits fieldsOf valueFrom fieldAt outOfRange hasHostBits numberFault judged readRow rowNumber listAfter rowNumbersFrom rowNumbers importedFrom imported importChecks importNumber importReport importKeys pullOf pull runBytes startAt hopAt inSlices runChecks runNumber runHop runProbes inBytes hostChecks hostNumber hostHop hostAnswer width blockHop bit wordFrom wordsOf basesFrom basesOf packedHopsOf blockOf onesTo pastPlace packedChecks packedNumber packedHop covering relabelled firstHalf secondHalf decimalBy decimal dottedText rowText textOf ones onesIn
 corners-hold = tt

@@ -1,4 +1,5 @@
 pub mod Numbers
 pub mod Slots
+pub mod Column
 pub mod Stretch
 pub mod Halving

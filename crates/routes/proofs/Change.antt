@@ -13,6 +13,7 @@ use borrow.Author.Tests.{ltb-true, ltb-false, eqb-true, eqb-false, eq-eqb, ne-eq
 use lib.Dec.{ltb, eqb}
 use lib.ListN.{length}
 use Rattle.ground.proofs.Truth.{decided, never-both, cond-true, cond-false, or-left, or-right, or-cases, or-neither, not-true}
+use Rattle.ground.specs.Column.{ascends}
 use Rattle.cidr.specs.Prefix.{lengthOf, holds, isPrefix}
 use Rattle.routes.specs.Row.{Row, row, those, keepRow}
 use Rattle.routes.specs.WellFormed.{ascending}
@@ -113,7 +114,7 @@ module _ (k h : ℕ) where
   }
 
   pub announced-ascending : (rows : List Row) → ascending rows ≡ true → ascending (announced k h rows) ≡ true
-  unfolding announced ascending
+  unfolding announced ascending ascends
   announced-ascending [] e = refl
   announced-ascending (t ∷ ts) e = go (order k (t .key)) (announced-ascending ts (ascending-tail t ts e))
     where
@@ -141,7 +142,7 @@ module _ (k h : ℕ) where
 -- a part of a well-formed list is well-formed
 module _ (p : Row → Bool) where
   those-ascending : (rows : List Row) → ascending rows ≡ true → ascending (those p rows) ≡ true
-  unfolding those ascending
+  unfolding those ascending ascends
   those-ascending [] e = refl
   those-ascending (t ∷ ts) e = go (p t) (those-ascending ts (ascending-tail t ts e))
     where

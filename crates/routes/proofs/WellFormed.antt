@@ -10,26 +10,27 @@ use native.Mathlib.Omega.{arith}
 use borrow.Author.Tests.{ltb-true, lt-ltb, eqb-false, ne-eqb, eq-eqb}
 use lib.Dec.{ltb, eqb}
 use Rattle.ground.proofs.Truth.{and-left, and-right, and-both, not-true}
+use Rattle.ground.specs.Column.{below, ascends}
 use Rattle.cidr.specs.Prefix.{isPrefix}
-use Rattle.routes.specs.Row.{Row, every}
-use Rattle.routes.specs.WellFormed.{prefixes, hopsGiven, below, ascending, halfRows, goodRows}
+use Rattle.routes.specs.Row.{Row, keysOf, every}
+use Rattle.routes.specs.WellFormed.{prefixes, hopsGiven, ascending, halfRows, goodRows}
 use Rattle.routes.proofs.Row.{Has, every-has, has-every}
 
 -- keys ascend: the first is below every other one
 pub first-below : (r : Row) (rows : List Row) → ascending (r ∷ rows) ≡ true → (s : Row) → Has s rows → r .key < s .key
-unfolding ascending
+unfolding ascending ascends
 first-below r [] e s m = absurd (List·Memᴰ·not-nil m)
-first-below r (t ∷ ts) e s m = ⊎-elim (λ q. subst (λ x. r .key < x .key) (sym q) next) (λ n. lt-trans next (first-below t ts (and-right (below (r .key) (t ∷ ts)) (ascending (t ∷ ts)) e) s n)) (List·Memᴰ·cases-cons m)
+first-below r (t ∷ ts) e s m = ⊎-elim (λ q. subst (λ x. r .key < x .key) (sym q) next) (λ n. lt-trans next (first-below t ts (and-right (below (r .key) (keysOf (t ∷ ts))) (ascends (keysOf (t ∷ ts))) e) s n)) (List·Memᴰ·cases-cons m)
   where
     next : r .key < t .key
-    next = ltb-true _ _ (and-left (below (r .key) (t ∷ ts)) (ascending (t ∷ ts)) e)
+    next = ltb-true _ _ (and-left (below (r .key) (keysOf (t ∷ ts))) (ascends (keysOf (t ∷ ts))) e)
 
 pub ascending-tail : (r : Row) (rows : List Row) → ascending (r ∷ rows) ≡ true → ascending rows ≡ true
-unfolding ascending
-ascending-tail r rows e = and-right (below (r .key) rows) (ascending rows) e
+unfolding ascending ascends
+ascending-tail r rows e = and-right (below (r .key) (keysOf rows)) (ascends (keysOf rows)) e
 
 pub ascending-cons : (r : Row) (rows : List Row) → ((s : Row) → Has s rows → r .key < s .key) → ascending rows ≡ true → ascending (r ∷ rows) ≡ true
-unfolding ascending
+unfolding ascending ascends
 ascending-cons r [] h e = refl
 ascending-cons r (t ∷ ts) h e = and-both (lt-ltb _ _ (h t (List·Memᴰ·head refl))) e
 

@@ -1,11 +1,12 @@
 -- "11: a list or table is ill-formed: count beyond its slices or its top room, key not a prefix, list hop 0, keys not ascending."
 -- Assumes nothing.
-use mathlib.Core.Bool.{Bool, true, not, _&&_}
-use mathlib.Core.List.{List, [], _∷_}
+use mathlib.Core.Bool.{Bool, true, false, not, _&&_}
+use mathlib.Core.List.{List}
 use Prim.Native.Nat.{ℕ}
-use lib.Dec.{leb, ltb, eqb}
+use lib.Dec.{leb, eqb}
+use Rattle.ground.specs.Column.{ascends}
 use Rattle.cidr.specs.Prefix.{isPrefix}
-use Rattle.routes.specs.Row.{Row, rowsOf, every, listRoom}
+use Rattle.routes.specs.Row.{Row, rowsOf, keysOf, every, listRoom}
 
 -- every key is a prefix
 unfoldable pub prefixes : List Row → Bool
@@ -15,15 +16,9 @@ prefixes rows = every (λ r. isPrefix (r .key)) rows
 unfoldable pub hopsGiven : List Row → Bool
 hopsGiven rows = every (λ r. not (eqb (r .hop) 0)) rows
 
--- the key is below that of the first row, if there is one
-abbrev pub below : ℕ → List Row → Bool
-below k [] = true
-below k (r ∷ rs) = ltb k (r .key)
-
 -- "Keys strictly ascend."
 unfoldable pub ascending : List Row → Bool
-ascending [] = true
-ascending (r ∷ rs) = below (r .key) rs && ascending rs
+ascending rows = ascends (keysOf rows)
 
 -- what a list's rows must be, but for label 0: "Lookup over a half takes label 0 as an ordinary hop; only its other list faults are 11."
 unfoldable pub halfRows : List Row → Bool
@@ -40,3 +35,8 @@ wellFormed count keys hops = leb count (listRoom keys hops) && goodRows (rowsOf 
 -- the same for a half
 unfoldable pub halfFormed : ℕ → List ℕ → List ℕ → Bool
 halfFormed count keys hops = leb count (listRoom keys hops) && halfRows (rowsOf count keys hops)
+
+-- the two by a flag: whether label 0 is an ordinary hop
+unfoldable pub formed : Bool → ℕ → List ℕ → List ℕ → Bool
+formed true count keys hops = halfFormed count keys hops
+formed false count keys hops = wellFormed count keys hops
