@@ -1,1 +1,42 @@
 // Addresses, prefixes and keys as CIDR (RFC 4632) has them: what a prefix is, and which addresses it holds.
+ghost use mathlib.Core.Path.{_≡_};
+ghost use Prim.Native.Nat.{_-_, _*_, _/_, _^_, _≤_};
+ghost use Rattle.cidr.specs.Prefix.{isPrefix, holds};
+
+// A number with its low `bits` bits set to 0.
+fn cleared(x: u64, bits: u64) -> u64
+    requires { ⌜ bits ≤ 32 ⌝ }
+    ensures { λ r. ⌜ r ≡ x / 2 ^ bits * 2 ^ bits ⌝ }
+{
+    (x >> bits) << bits
+}
+
+// How many bits of an address lie beyond a length; none beyond 32 and above.
+fn host_bits(len: u64) -> u64
+    ensures { λ r. ⌜ r ≡ 32 - len ⌝ }
+{
+    if len < 32 { 32 - len } else { 0 }
+}
+
+// A key is a prefix: length 0 to 32, network an address, the low 32 - length bits of the network 0.
+pub fn is_prefix(key: u64) -> bool
+    ensures { λ r. ⌜ r ≡ isPrefix key ⌝ }
+{
+    let len = key % 64;
+    let net = key / 64;
+    if 32 < len {
+        return false;
+    }
+    if 4294967295 < net {
+        return false;
+    }
+    cleared(net, host_bits(len)) == net
+}
+
+// The prefix holds the address: the address, with its bits beyond the prefix's length set to 0, is the prefix's network.
+pub fn holds(key: u64, a: u32) -> bool
+    ensures { λ r. ⌜ r ≡ holds key a ⌝ }
+{
+    let len = key % 64;
+    cleared(a as u64, host_bits(len)) == key / 64
+}

@@ -1,0 +1,19 @@
+-- `cidr::holds` meets its contract: the address with its host bits cleared is what the definition compares.
+-- Assumes nothing.
+use borrow.Author.Needs.{needs}
+use Rattle.cidr.proofs.holds.Statement.{statement}
+use Rattle.cidr.proofs.holds.Tie as tie
+use Rattle.cidr.proofs.Bits.{matched}
+
+host-bits-requires : tie.Need-host-bits-requires
+host-bits-requires c κs = search needs
+
+cleared-requires : tie.Need-cleared-requires
+cleared-requires c κs = search needs
+
+returns : tie.Need-returns
+returns c =
+    rw (c .cleared .ensures, c .before .host-bits .ensures) (matched (c .before .before .args .key) (c .before .before .args .a))
+
+pub holds-spec : {M : Type 1} → statement M
+holds-spec = tie.close (tie.spec host-bits-requires cleared-requires returns)
