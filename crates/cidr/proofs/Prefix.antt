@@ -1,9 +1,9 @@
 -- What a prefix is and which addresses it holds, as facts about numbers: a prefix holds the addresses from its network on, as many as its
 -- size, and of all prefixes of one length at most one holds an address.
 -- Assumes nothing.
-use mathlib.Core.Path.{_≡_, refl, sym, ap, _∙_, subst}
-use mathlib.Core.Bool.{Bool, true, false, _&&_}
-use Prim.Native.Nat.{ℕ, _+_, _-_, _*_, _/_, _%_, _^_, _≤_, _<_}
+use mathlib.Core.Path.{_≡_, sym, ap, _∙_, subst}
+use mathlib.Core.Bool.{true, _&&_}
+use Prim.Native.Nat.{ℕ, _+_, _-_, _%_, _≤_, _<_}
 use native.Mathlib.Nat.{mod-lt, mod-le, mod-add-mod, mod-eq-of-lt, zero-add, add-sub-of-le, add-sub-cancel}
 use native.Mathlib.Omega.{arith}
 use lib.Dec.{leb, ltb, eqb}

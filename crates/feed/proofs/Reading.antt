@@ -1,17 +1,16 @@
 -- What a reading says holds: a good row has a prefix and a hop of 1 to 65,535, and a bad row's number is 1, 2 or 3.
 -- Assumes nothing.
-use mathlib.Core.Path.{_≡_, refl, sym, ap, _∙_, subst}
-use mathlib.Core.Logic.{_⊎_, inl, inr, ⊎-elim}
-use mathlib.Core.Bool.{Bool, true, false, not, cond, _||_}
-use mathlib.Core.List.{List, [], _∷_}
+use mathlib.Core.Path.{_≡_, refl, sym, subst}
+use mathlib.Core.Bool.{Bool, true, false, cond, _||_}
+use mathlib.Core.List.{List}
 use mathlib.Core.Option.{Option, none, some}
-use Prim.Native.Nat.{ℕ, _+_, _*_, _/_, _%_, _≤_, _<_}
+use Prim.Native.Nat.{ℕ, _≤_, _<_}
 use native.Mathlib.Omega.{arith}
 use borrow.Author.Tests.{ltb-false, eqb-false, eqb-true}
 use lib.Dec.{ltb, eqb, lit≤}
-use Rattle.ground.specs.Numbers.{firstFault, check}
-use Rattle.ground.proofs.Truth.{decided, cond-true, cond-false, or-neither, not-false}
-use Rattle.cidr.specs.Prefix.{dotted, addresses, keyOf, network, lengthOf, hostBits, isPrefix}
+use Rattle.ground.specs.Numbers.{firstFault}
+use Rattle.ground.proofs.Truth.{or-neither, not-false}
+use Rattle.cidr.specs.Prefix.{addresses, keyOf, network, lengthOf, hostBits, isPrefix}
 use Rattle.cidr.proofs.Prefix.{parts-prefix, network-key, length-key}
 use Rattle.feed.specs.Reading.{Reading, good, bad, fieldAt, addressOf, outOfRange, hasHostBits, numberFault, judged, readRow, fieldsOf, form}
 

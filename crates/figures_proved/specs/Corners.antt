@@ -2,11 +2,11 @@
 -- Assumes nothing.
 use mathlib.Core.List.{List, [], _∷_, _++_}
 use Prim.Native.Nat.{ℕ, _^_}
-use lib.ListN.{length, getD}
+use lib.ListN.{length}
 use Rattle.ground.specs.Halving.{halving}
-use Rattle.cidr.specs.Prefix.{dotted, size, isPrefix, holds, keyOf}
+use Rattle.cidr.specs.Prefix.{dotted, isPrefix, holds, keyOf}
 use Rattle.routes.specs.Row.{Row, keysOf, hopsOf, listRoom}
-use Rattle.routes.specs.WellFormed.{goodRows, halfRows, wellFormed}
+use Rattle.routes.specs.WellFormed.{wellFormed}
 use Rattle.routes.specs.Plain.{plain}
 use Rattle.routes.specs.Change.{announced, withdrawn}
 use Rattle.routes.specs.Lookup.{lookupNumber, lookupHop, halfNumber}

@@ -1,7 +1,7 @@
 -- "Keep low = 0 and high = n; while they are more than 1 apart, probe the place (low + high) div 2, which becomes low if its start
 -- is at most the address, else high. The answer is .. low and the number of probes": over any function `at` from places to starts.
 -- Assumes nothing.
-use mathlib.Core.Bool.{Bool, true, false, cond}
+use mathlib.Core.Bool.{true, false, cond}
 use Prim.Native.Nat.{ℕ, zero, suc, _+_, _-_, _/_}
 use lib.Dec.{leb}
 

@@ -3,17 +3,17 @@
 -- Assumes nothing.
 use mathlib.Core.Path.{_≡_, refl, sym, ap, _∙_, subst}
 use mathlib.Core.Logic.{_⊎_, inl, inr, ⊎-elim}
-use mathlib.Core.Bool.{Bool, true, false}
+use mathlib.Core.Bool.{true, false}
 use mathlib.Core.List.{List, [], _∷_, List·Memᴰ·head, List·Memᴰ·tail, List·Memᴰ·cases-cons, List·Memᴰ·not-nil}
-use mathlib.Core.Option.{Option, none, some}
-use Prim.Native.Nat.{ℕ, _<_, _≤_}
+use mathlib.Core.Option.{none, some}
+use Prim.Native.Nat.{ℕ, _≤_}
 use native.Mathlib.Nat.{le-refl, le-trans, le-of-lt, le-antisymm}
 use borrow.Author.Tests.{leb-true, leb-false}
 use lib.Dec.{leb}
 use Rattle.ground.proofs.Truth.{decided, never-both, cond-true, cond-false}
 use Rattle.cidr.specs.Prefix.{lengthOf, holds}
 use Rattle.cidr.proofs.Prefix.{same-key}
-use Rattle.routes.specs.Row.{Row, those}
+use Rattle.routes.specs.Row.{Row}
 use Rattle.routes.specs.WellFormed.{ascending}
 use Rattle.routes.specs.Plain.{matching, longer, longest, hopOf, plain}
 use Rattle.routes.proofs.Row.{Has, those-has, has-those}

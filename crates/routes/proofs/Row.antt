@@ -1,11 +1,10 @@
 -- Which rows a list has: those that pass a test are the listed rows of which the test is true.
 -- Assumes nothing.
-use mathlib.Core.Path.{_≡_, refl, sym, ap, _∙_, subst}
+use mathlib.Core.Path.{_≡_, refl, sym, ap, _∙_}
 use mathlib.Core.Logic.{_⊎_, inl, inr, ⊎-elim}
-use mathlib.Core.Bool.{Bool, true, false, _&&_}
+use mathlib.Core.Bool.{Bool, true, false}
 use mathlib.Core.List.{List, [], _∷_, List·Memᴰ, List·Memᴰ·head, List·Memᴰ·tail, List·Memᴰ·cases-cons, List·Memᴰ·not-nil}
-use Prim.Native.Nat.{ℕ}
-use Rattle.ground.proofs.Truth.{and-left, and-right, and-both, decided, never-both}
+use Rattle.ground.proofs.Truth.{and-left, and-right, and-both, never-both}
 use Rattle.routes.specs.Row.{Row, every, keepRow, those}
 
 -- the row is listed

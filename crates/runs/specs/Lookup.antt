@@ -1,7 +1,7 @@
 -- "The answer is the hop at low and the number of probes." "For run lookups, [11 is] no runs or count beyond the slices."
 -- "[The C host] gets 65,536 × number + hop; no bytes, or a length that 6 doesn't divide, is 11."
 -- Assumes nothing.
-use mathlib.Core.Bool.{Bool, not, _||_}
+use mathlib.Core.Bool.{not, _||_}
 use mathlib.Core.List.{List, [], _∷_}
 use Prim.Native.Nat.{ℕ, _+_, _*_, _/_, _%_, min}
 use lib.ListN.{length, getD}

@@ -2,7 +2,7 @@
 -- b div 16; place = base + ones in that word's bits 0 to b mod 16, minus 1. A place below 0 or past the hops is 19."
 -- "19: packed lookup would leave its slices, or width over 16."
 -- Assumes nothing.
-use mathlib.Core.Bool.{Bool, _||_}
+use mathlib.Core.Bool.{_||_}
 use mathlib.Core.List.{List, [], _∷_}
 use Prim.Native.Nat.{ℕ, _+_, _-_, _/_, _%_, _^_}
 use lib.ListN.{length, getD}

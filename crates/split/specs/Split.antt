@@ -2,7 +2,7 @@
 -- for those. The second half is 0.0.0.0/0 with label 0, then each other row with its hop XORed with the hop of the longest prefix in the
 -- first half that holds it. It has n - k + 1 rows exactly."
 -- Assumes nothing.
-use mathlib.Core.Bool.{Bool, not, _||_}
+use mathlib.Core.Bool.{not, _||_}
 use mathlib.Core.List.{List, [], _∷_, map}
 use Prim.Native.Nat.{ℕ}
 use lib.ListN.{length, take, drop}

@@ -1,7 +1,7 @@
 -- "The writer puts rows in list order, no leading zeros, LF after each .. 13 exactly if the text is longer than the buffer; bytes beyond
 -- the text stay."
 -- Assumes nothing.
-use mathlib.Core.Bool.{Bool, true, false, not}
+use mathlib.Core.Bool.{true, false, not}
 use mathlib.Core.List.{List, [], _∷_, _++_}
 use Prim.Native.Nat.{ℕ, zero, suc, _+_, _/_, _%_}
 use lib.ListN.{length}
