@@ -10,7 +10,7 @@ use lib.Dec.{leb, ltb, eqb}
 use lib.Pow.{pow-pos}
 use borrow.Author.Tests.{leb-true, ltb-true, eqb-true, le-leb, lt-ltb, eq-eqb}
 use Rattle.ground.proofs.Truth.{and-left, and-right, and-both}
-use Rattle.cidr.specs.Prefix.{addresses, keyOf, network, lengthOf, size, hostBits, isPrefix, holds}
+use Rattle.cidr.specs.Prefix.{addresses, keyOf, network, lengthOf, size, hostBits, isPrefix, holds, covers}
 
 pub size-pos : (len : ℕ) → 0 < size len
 unfolding size
@@ -93,3 +93,10 @@ within-holds key a p from to = eq-eqb _ _ (subst (λ x. x - hostBits (lengthOf k
     step =
         rw (host-bits-past (lengthOf key) (network key) (a - network key) (p .aligned) (omega arith))
         (add-sub-cancel (network key) (a - network key))
+
+-- "a prefix stands before every longer one inside it"
+pub covers-before : (key other : ℕ) → covers key other ≡ true → lengthOf key < lengthOf other → key < other
+unfolding covers
+covers-before key other e long =
+    let from : network key ≤ network other = holds-from key (network other) (and-right (leb (lengthOf key) (lengthOf other)) (holds key (network other)) e) in
+    omega (arith, key-split key, key-split other)

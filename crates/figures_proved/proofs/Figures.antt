@@ -3,8 +3,8 @@
 use lib.Dec.{T}
 use lib.Count.{ones, onesIn}
 use Rattle.ground.specs.Numbers.{firstFault, ifDone}
-use Rattle.ground.specs.Slots.{same, written}
-use Rattle.ground.specs.Column.{ascends}
+use Rattle.ground.specs.Slots.{same, written, rewritten}
+use Rattle.ground.specs.Column.{ascends, insertedAt, removedAt}
 use Rattle.ground.specs.Stretch.{stretch, among, turns}
 use Rattle.ground.specs.Halving.{halves, halving}
 use Rattle.cidr.specs.Prefix.{size, hostBits, isPrefix, holds, covers}
@@ -12,17 +12,18 @@ use Rattle.routes.specs.Row.{every, those, rowsOf, listRoom}
 use Rattle.routes.specs.WellFormed.{prefixes, hopsGiven, ascending, halfRows, goodRows, wellFormed, halfFormed}
 use Rattle.routes.specs.Plain.{matching, longer, longest, plain}
 use Rattle.routes.specs.Change.{listed, announced, withdrawn}
-use Rattle.routes.specs.Lookup.{lookupChecks, lookupNumber, lookupHop, halfChecks, halfNumber}
+use Rattle.routes.specs.Lookup.{lookupChecks, lookupNumber, lookupHop, halfChecks, halfNumber, halfLabel}
 use Rattle.feed.specs.Rows.{rowsIn}
 use Rattle.feed.specs.Reading.{digits, afterDigits, fieldsOf, valueFrom, fieldAt, outOfRange, hasHostBits, numberFault, judged, readRow}
-use Rattle.feed.specs.Import.{rowNumber, listAfter, rowNumbersFrom, rowNumbers, importedFrom, imported, importChecks, importNumber, importReport, importKeys}
+use Rattle.feed.specs.Import.{rowNumber, listAfter, rowNumbersFrom, rowNumbers, importedFrom, imported, howMany, countsOf, importChecks, importNumber, importCounts, importReport, importKeys, importTally}
 use Rattle.feed.specs.Pull.{pullOf, pull}
 use Rattle.runs.specs.Bytes.{runBytes, startAt, hopAt}
 use Rattle.runs.specs.Lookup.{inSlices, runChecks, runNumber, runHop, runProbes, inBytes, hostChecks, hostNumber, hostHop, hostAnswer}
 use Rattle.segment.specs.Packed.{width, blockHop, bit, wordFrom, wordsOf, basesFrom, basesOf, packedHopsOf}
 use Rattle.segment.specs.Lookup.{blockOf, onesTo, pastPlace, packedChecks, packedNumber, packedHop}
-use Rattle.split.specs.Split.{covering, relabelled, firstHalf, secondHalf}
-use Rattle.text.specs.Text.{decimalBy, decimal, dottedText, rowText, textOf}
+use Rattle.split.specs.Split.{covering, relabelled, firstHalf, secondHalf, splitChecks, splitNumber}
+use Rattle.text.specs.Text.{decimalBy, decimal, dottedText, rowText, textOf, writeChecks, writeNumber, writeBuffer}
+use Rattle.text.specs.Program.{lineOf, countLines, runLines}
 use Rattle.figures_proved.specs.Figure.{allHold}
 use Rattle.figures_proved.specs.Marked.{marked}
 use Rattle.figures_proved.specs.Corners.{corners}
@@ -32,5 +33,5 @@ unfolding allHold same firstFault stretch among turns size hostBits holds covers
 marked-hold = tt
 
 pub corners-hold : T (allHold corners)
-unfolding allHold same written firstFault ifDone stretch among turns halves halving size hostBits isPrefix holds covers every those rowsOf listRoom prefixes hopsGiven ascends ascending halfRows goodRows wellFormed halfFormed matching longer longest plain listed announced withdrawn lookupChecks lookupNumber lookupHop halfChecks halfNumber rowsIn digits afterDigits fieldsOf valueFrom fieldAt outOfRange hasHostBits numberFault judged readRow rowNumber listAfter rowNumbersFrom rowNumbers importedFrom imported importChecks importNumber importReport importKeys pullOf pull runBytes startAt hopAt inSlices runChecks runNumber runHop runProbes inBytes hostChecks hostNumber hostHop hostAnswer width blockHop bit wordFrom wordsOf basesFrom basesOf packedHopsOf blockOf onesTo pastPlace packedChecks packedNumber packedHop covering relabelled firstHalf secondHalf decimalBy decimal dottedText rowText textOf ones onesIn
+unfolding allHold same written rewritten insertedAt removedAt firstFault ifDone stretch among turns halves halving size hostBits isPrefix holds covers every those rowsOf listRoom prefixes hopsGiven ascends ascending halfRows goodRows wellFormed halfFormed matching longer longest plain listed announced withdrawn lookupChecks lookupNumber lookupHop halfChecks halfNumber halfLabel rowsIn digits afterDigits fieldsOf valueFrom fieldAt outOfRange hasHostBits numberFault judged readRow rowNumber listAfter rowNumbersFrom rowNumbers importedFrom imported howMany countsOf importChecks importNumber importCounts importReport importKeys importTally pullOf pull runBytes startAt hopAt inSlices runChecks runNumber runHop runProbes inBytes hostChecks hostNumber hostHop hostAnswer width blockHop bit wordFrom wordsOf basesFrom basesOf packedHopsOf blockOf onesTo pastPlace packedChecks packedNumber packedHop covering relabelled firstHalf secondHalf splitChecks splitNumber decimalBy decimal dottedText rowText textOf writeChecks writeNumber writeBuffer lineOf countLines runLines ones onesIn
 corners-hold = tt

@@ -1,1 +1,2 @@
 mod Figures
+mod Orders

@@ -1,29 +1,33 @@
--- Corners that the document's figures leave out, worked out by hand.
+-- Corners beside the document's marked figures, worked out by hand.
 -- Assumes nothing.
 use mathlib.Core.List.{List, [], _∷_, _++_}
+use mathlib.Core.Option.{Option, none, some}
 use Prim.Native.Nat.{ℕ, _^_}
 use lib.ListN.{length}
+use Rattle.ground.specs.Slots.{rewritten}
+use Rattle.ground.specs.Column.{insertedAt, removedAt}
 use Rattle.ground.specs.Halving.{halving}
-use Rattle.cidr.specs.Prefix.{dotted, isPrefix, holds, keyOf}
+use Rattle.cidr.specs.Prefix.{dotted, isPrefix, holds, covers, keyOf}
 use Rattle.routes.specs.Row.{Row, keysOf, hopsOf, listRoom}
 use Rattle.routes.specs.WellFormed.{wellFormed}
 use Rattle.routes.specs.Plain.{plain}
 use Rattle.routes.specs.Change.{announced, withdrawn}
-use Rattle.routes.specs.Lookup.{lookupNumber, lookupHop, halfNumber}
+use Rattle.routes.specs.Lookup.{lookupNumber, lookupHop, halfNumber, halfLabel}
 use Rattle.feed.specs.Rows.{rowsIn}
-use Rattle.feed.specs.Import.{rowNumbers, imported, importNumber, importReport, importKeys}
+use Rattle.feed.specs.Reading.{Reading, good, bad}
+use Rattle.feed.specs.Import.{Counts, countsOf, noCounts, rowNumbers, imported, importNumber, importCounts, importReport, importKeys, importTally}
 use Rattle.feed.specs.Pull.{pull}
 use Rattle.runs.specs.Bytes.{runBytes}
 use Rattle.runs.specs.Lookup.{runNumber, runHop, runProbes, hostAnswer}
 use Rattle.segment.specs.Packed.{width, wordsOf, basesOf, packedHopsOf}
 use Rattle.segment.specs.Lookup.{packedNumber, packedHop}
-use Rattle.split.specs.Split.{secondHalf}
-use Rattle.text.specs.Text.{textOf}
-use Rattle.text.specs.Program.{bytes}
+use Rattle.split.specs.Split.{secondHalf, splitNumber}
+use Rattle.text.specs.Text.{textOf, writeNumber, writeBuffer}
+use Rattle.text.specs.Program.{bytes, countLines, runLines}
 use Rattle.figures_proved.specs.Figure.{Figure, figure, one, passes, fails, prefix, route}
-use Rattle.figures_proved.specs.Marked.{listA, q}
+use Rattle.figures_proved.specs.Marked.{listA, q, fiveRows}
 
--- the three widest and narrowest prefixes, as a list
+-- 0.0.0.0/0, 128.0.0.0/1 and 255.255.255.255/32, as a list
 abbrev pub ends : List Row
 ends = route 0 0 0 0 0 9 ∷ route 128 0 0 0 1 8 ∷ route 255 255 255 255 32 7 ∷ []
 
@@ -34,6 +38,24 @@ numbered feed = rowNumbers 1024 feed
 -- a good row with these bytes after it, a row of its own
 abbrev pub tailed : List ℕ → List ℕ
 tailed tail = bytes "10.0.0.0/8 7" ++ (tail ++ bytes "\n")
+
+-- what a pull read, as a row number, a key and a hop; nothing where there was no row
+abbrev pub pulled : Option Reading → List ℕ
+pulled none = []
+pulled (some (good k h)) = 0 ∷ k ∷ h ∷ []
+pulled (some (bad n)) = n ∷ 0 ∷ 0 ∷ []
+
+-- the seven counts, in their order
+abbrev pub seven : Counts → List ℕ
+seven c = c .rows ∷ c .taken ∷ c .shape ∷ c .range ∷ c .hostbits ∷ c .repeat ∷ c .noroom ∷ []
+
+-- 10.0.0.0/8 hop 1 with 10.64.0.0/10 hop 2 in it
+abbrev pub nested : List Row
+nested = route 10 0 0 0 8 1 ∷ route 10 64 0 0 10 2 ∷ []
+
+-- the number of a split with room for two rows
+abbrev pub splitOf : ℕ → ℕ → List ℕ → List ℕ → ℕ
+splitOf k count keys hops = splitNumber k count keys hops (0 ∷ 0 ∷ []) (0 ∷ 0 ∷ [])
 
 abbrev pub corners : List Figure
 corners =
@@ -62,7 +84,7 @@ corners =
     ∷ fails (isPrefix (keyOf 0 33))
     ∷ fails (isPrefix (keyOf 0 63))
     ∷ one (lookupNumber 1 (2 ^ 38 ∷ []) (1 ∷ [])) 11
-    -- 11: a count beyond one slice, hop 0, equal keys, keys that fall; a half takes label 0
+    -- 11: a count beyond one slice, hop 0, equal keys, keys that fall; a half takes label 0; slots past the count aren't looked at
     ∷ one (lookupNumber 1 (prefix 10 0 0 0 8 ∷ []) []) 11
     ∷ one (lookupNumber 1 (prefix 10 0 0 0 8 ∷ []) (0 ∷ [])) 11
     ∷ one (halfNumber 1 (prefix 10 0 0 0 8 ∷ []) (0 ∷ [])) 0
@@ -102,11 +124,14 @@ corners =
     ∷ one (importNumber (bytes "\n\n") (9 ∷ [])) 12
     ∷ figure (importReport (bytes "\n\n") [] [] (9 ∷ [])) (9 ∷ [])
     ∷ figure (importReport (bytes "\n\n") [] [] (9 ∷ 9 ∷ 9 ∷ [])) (1 ∷ 1 ∷ 9 ∷ [])
-    -- pulls: past an LF, to the end, in mid-row, at the end
+    -- pulls: past an LF, to the end, at the end, past the end, and in mid-row, where what is left of the row is read
     ∷ one (pull (bytes "10.0.0.0/8 7\nx") 0 .next) 13
     ∷ one (pull (bytes "10.0.0.0/8 7\nx") 13 .next) 14
     ∷ one (pull (bytes "10.0.0.0/8 7\nx") 14 .next) 14
     ∷ one (pull (bytes "10.0.0.0/8 7\nx") 20 .next) 20
+    ∷ figure (pulled (pull (bytes "110.0.0.0/8 7\nx") 1 .reading)) (0 ∷ prefix 10 0 0 0 8 ∷ 7 ∷ [])
+    ∷ figure (pulled (pull (bytes "10.0.0.1/8 7\nx") 0 .reading)) (3 ∷ 0 ∷ 0 ∷ [])
+    ∷ figure (pulled (pull (bytes "\n") 1 .reading)) []
     -- halving: one run is no probe, five runs at most three
     ∷ figure (halving (λ i. i) 1 9 .low ∷ halving (λ i. i) 1 9 .probes ∷ []) (0 ∷ 0 ∷ [])
     ∷ figure (halving (λ i. i) 5 9 .low ∷ halving (λ i. i) 5 9 .probes ∷ []) (4 ∷ 3 ∷ [])
@@ -135,4 +160,38 @@ corners =
     -- announcing a listed prefix keeps the count, and withdrawing takes one row
     ∷ figure (hopsOf (announced (prefix 128 0 0 0 1) 6 ends)) (9 ∷ 6 ∷ 7 ∷ [])
     ∷ figure (hopsOf (withdrawn (prefix 128 0 0 0 1) ends)) (9 ∷ 7 ∷ [])
+    -- the counts of the program's five rows, with a report long enough and one short; a lent tally is set, and stays on 12
+    ∷ figure (seven (importCounts fiveRows (0 ∷ []) (0 ∷ []) (9 ∷ 9 ∷ 9 ∷ 9 ∷ 9 ∷ []))) (5 ∷ 1 ∷ 1 ∷ 1 ∷ 1 ∷ 1 ∷ 0 ∷ [])
+    ∷ figure (seven (importCounts fiveRows (0 ∷ []) (0 ∷ []) (9 ∷ []))) (0 ∷ 0 ∷ 0 ∷ 0 ∷ 0 ∷ 0 ∷ 0 ∷ [])
+    ∷ figure (seven (importTally fiveRows [] [] (9 ∷ 9 ∷ 9 ∷ 9 ∷ 9 ∷ []) noCounts)) (5 ∷ 0 ∷ 1 ∷ 1 ∷ 1 ∷ 0 ∷ 2 ∷ [])
+    ∷ one (importTally fiveRows [] [] (9 ∷ []) (countsOf (7 ∷ [])) .rows) 1
+    -- the program's count lines for them
+    ∷ figure (countLines (countsOf (rowNumbers 1024 fiveRows)))
+    (bytes "rows 5\ntaken 1\nshape 1\nrange 1\nhostbits 1\nrepeat 1\nnoroom 0\n")
+    ∷ figure (runLines (0 ∷ dotted 10 0 0 0 ∷ dotted 11 0 0 0 ∷ []) (0 ∷ 7 ∷ 0 ∷ []))
+    (bytes "0.0.0.0 0\n10.0.0.0 7\n11.0.0.0 0\n")
+    -- slots after an edit: a smaller count leaves zeros up to the old one, a larger one keeps what is beyond it
+    ∷ figure (rewritten (1 ∷ []) 3 (7 ∷ 7 ∷ 7 ∷ 7 ∷ [])) (1 ∷ 0 ∷ 0 ∷ 7 ∷ [])
+    ∷ figure (rewritten (1 ∷ 2 ∷ []) 1 (7 ∷ 7 ∷ 7 ∷ 7 ∷ [])) (1 ∷ 2 ∷ 7 ∷ 7 ∷ [])
+    ∷ figure (insertedAt 2 1 5 (1 ∷ 2 ∷ 9 ∷ 9 ∷ []) ++ insertedAt 2 1 5 (1 ∷ 2 ∷ [])) (1 ∷ 5 ∷ 2 ∷ 9 ∷ 1 ∷ 2 ∷ [])
+    ∷ figure (removedAt 3 0 (1 ∷ 2 ∷ 3 ∷ 9 ∷ []) ++ removedAt 1 1 (1 ∷ [])) (2 ∷ 3 ∷ 0 ∷ 9 ∷ 1 ∷ [])
+    -- a split's checks in their order: 11, 17, 18, 13; k = n leaves one row
+    ∷ figure (splitOf 0 1 (0 ∷ []) (0 ∷ []) ∷ splitOf 0 1 (0 ∷ []) (4 ∷ []) ∷ splitOf 2 1 (0 ∷ []) (4 ∷ []) ∷ []) (11 ∷ 17 ∷ 17 ∷ [])
+    ∷ figure (splitOf 1 1 (prefix 10 0 0 0 8 ∷ []) (4 ∷ []) ∷ splitNumber 1 1 (0 ∷ []) (4 ∷ []) [] (0 ∷ []) ∷ []) (18 ∷ 13 ∷ [])
+    ∷ one (splitOf 1 1 (0 ∷ []) (4 ∷ [])) 0
+    -- a prefix holds a longer one inside it and itself, and no shorter one
+    ∷ passes (covers (prefix 10 0 0 0 8) (prefix 10 64 0 0 10))
+    ∷ passes (covers (prefix 10 0 0 0 8) (prefix 10 0 0 0 8))
+    ∷ fails (covers (prefix 10 0 0 0 10) (prefix 10 0 0 0 8))
+    -- the writer: a buffer as long as the text, one byte short, and longer
+    ∷ figure (writeBuffer 1 (0 ∷ []) (5 ∷ []) (bytes "____________") ++ writeBuffer 1 (0 ∷ []) (5 ∷ []) (bytes "_____________"))
+    (bytes "0.0.0.0/0 5\n0.0.0.0/0 5\n_")
+    ∷ one (writeNumber 1 (0 ∷ []) (5 ∷ []) (bytes "___________")) 13
+    -- widths: none listed above 16 is 0, /17 is 1, /32 is 16; a /16 of the segment and a /8 around it give 0
+    ∷ figure (width 2560 nested ∷ width 2624 (announced (prefix 10 64 128 0 17) 3 nested) ∷ []) (0 ∷ 1 ∷ [])
+    ∷ one (width 65535 (announced (prefix 255 255 255 255 32) 3 nested)) 16
+    ∷ figure (wordsOf 2624 (announced (prefix 10 64 128 0 17) 3 nested)) (49152 ∷ [])
+    ∷ figure (packedHopsOf 2624 (announced (prefix 10 64 128 0 17) 3 nested)) (2 ∷ 3 ∷ [])
+    -- a label 0 row of a half hides the shorter prefix around it
+    ∷ one (halfLabel 2 (prefix 10 0 0 0 8 ∷ prefix 10 64 0 0 10 ∷ []) (1 ∷ 0 ∷ []) (dotted 10 64 0 1)) 0
     ∷ []

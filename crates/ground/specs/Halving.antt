@@ -14,15 +14,15 @@ pub record Halved : Type 0 where
 abbrev pub probed : Halved → Halved
 probed h = record { low = h .low; probes = suc (h .probes) }
 
--- The loop, from low and high on. `turns` bounds the turns of the loop: high - low falls with each, so n are enough (`halves-ends`).
+-- The loop, from low and high on. `left` bounds the turns that are left: high - low falls with each, so n are enough (`halves-ends`).
 unfoldable pub halves : ℕ → (ℕ → ℕ) → ℕ → ℕ → ℕ → Halved
 halves zero at a low high = record { low = low; probes = 0 }
-halves (suc turns) at a low high =
+halves (suc left) at a low high =
     elim (leb (high - low) 1) [
       | true ↦ record { low = low; probes = 0 }
       | false ↦
           probed
-          (halves turns at a
+          (halves left at a
           (cond (leb (at ((low + high) / 2)) a) ((low + high) / 2) low)
           (cond (leb (at ((low + high) / 2)) a) high ((low + high) / 2)))
     ]
