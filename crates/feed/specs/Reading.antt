@@ -5,7 +5,7 @@ use mathlib.Core.Bool.{Bool, true, false, not, cond, _&&_, _||_}
 use mathlib.Core.List.{List, [], _∷_}
 use mathlib.Core.Option.{Option, none, some}
 use Prim.Native.Nat.{ℕ, _+_, _-_, _*_}
-use lib.ListN.{length, getD}
+use lib.ListN.{length, getD, drop}
 use lib.Dec.{leb, ltb, eqb}
 use Rattle.cidr.specs.Prefix.{dotted, keyOf, hostBits}
 use Rattle.ground.specs.Numbers.{check, firstFault}
@@ -67,28 +67,28 @@ form = field 3 dot ∷ field 3 dot ∷ field 3 dot ∷ field 3 slash ∷ field 2
 abbrev pub hopDigits : ℕ
 hopDigits = 5
 
--- the bytes after the mark, where they begin with it
-abbrev pub afterMark : ℕ → List ℕ → Option (List ℕ)
-afterMark mark [] = none
-afterMark mark (b ∷ bs) = cond (eqb b mark) (some bs) none
+-- the bytes begin with the mark; the bytes have ended
+abbrev pub begins : ℕ → List ℕ → Bool
+begins mark [] = false
+begins mark (b ∷ bs) = eqb b mark
 
 abbrev pub isEnd : List ℕ → Bool
 isEnd [] = true
 isEnd (b ∷ bs) = false
 
--- one number's digits in front of those of the numbers after it, where all are as they must be
-abbrev pub joined : Bool → List ℕ → Option (List (List ℕ)) → Option (List (List ℕ))
-joined true ds none = none
-joined true ds (some more) = some (ds ∷ more)
-joined false ds more = none
+-- one number's digits in front of those of the numbers after it, where these are as they must be
+abbrev pub before : List ℕ → Option (List (List ℕ)) → Option (List (List ℕ))
+before ds none = none
+before ds (some more) = some (ds ∷ more)
 
--- the digits of each number of a row, where the whole row is of the form
+-- The digits of each number of a row, where the whole row is of the form: a number, then its mark, then what follows the mark is of the
+-- rest of the form; and at last the hop, with nothing after it.
 unfoldable pub fieldsOf : List Field → List ℕ → Option (List (List ℕ))
 fieldsOf [] bs = cond (isNumber hopDigits (digits bs) && isEnd (afterDigits bs)) (some (digits bs ∷ [])) none
 fieldsOf (f ∷ fs) bs =
-    elim (afterMark (f .mark) (afterDigits bs)) [
-      | none ↦ none
-      | some rest ↦ joined (isNumber (f .most) (digits bs)) (digits bs) (fieldsOf fs rest)
+    elim (isNumber (f .most) (digits bs) && begins (f .mark) (afterDigits bs)) [
+      true ↦ before (digits bs) (fieldsOf fs (drop 1 (afterDigits bs)))
+    | false ↦ none
     ]
 
 -- the value of digits, read as decimal from the first on
