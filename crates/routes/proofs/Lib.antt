@@ -2,3 +2,4 @@ pub mod Row
 pub mod WellFormed
 pub mod Plain
 pub mod Change
+pub mod PlaceLaws
