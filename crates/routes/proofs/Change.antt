@@ -47,15 +47,15 @@ pub record ButFor (k : ℕ) (rows rows′ : List Row) : Type 0 where
 
 -- The three ways that announcing goes on at a row: before it, in its place, after it.
 module _ (k h : ℕ) (t : Row) (ts : List Row) where
-  announced-before : k < t .key → announced k h (t ∷ ts) ≡ row k h ∷ t ∷ ts
+  pub announced-before : k < t .key → announced k h (t ∷ ts) ≡ row k h ∷ t ∷ ts
   unfolding announced
   announced-before l = cond-true _ _ (lt-ltb _ _ l)
 
-  announced-at : k ≡ t .key → announced k h (t ∷ ts) ≡ row k h ∷ ts
+  pub announced-at : k ≡ t .key → announced k h (t ∷ ts) ≡ row k h ∷ ts
   unfolding announced
   announced-at e = cond-false _ _ (le-ltb k (t .key) (omega arith)) ∙ cond-true _ _ (eq-eqb _ _ e)
 
-  announced-after : t .key < k → announced k h (t ∷ ts) ≡ t ∷ announced k h ts
+  pub announced-after : t .key < k → announced k h (t ∷ ts) ≡ t ∷ announced k h ts
   unfolding announced
   announced-after l = cond-false _ _ (le-ltb k (t .key) (omega arith)) ∙ cond-false _ _ (ne-eqb _ _ (λ e. lt-irrefl _ (subst (λ x. t .key < x) e l)))
 

@@ -2,3 +2,5 @@ pub mod Row
 pub mod WellFormed
 pub mod Plain
 pub mod Change
+pub mod PlaceLaws
+pub mod Columns
