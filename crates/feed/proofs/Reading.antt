@@ -12,47 +12,48 @@ use Rattle.ground.specs.Numbers.{firstFault}
 use Rattle.ground.proofs.Truth.{or-neither, not-false}
 use Rattle.cidr.specs.Prefix.{addresses, keyOf, network, lengthOf, hostBits, isPrefix}
 use Rattle.cidr.proofs.Prefix.{parts-prefix, network-key, length-key}
-use Rattle.feed.specs.Reading.{Reading, good, bad, fieldAt, addressOf, outOfRange, hasHostBits, numberFault, judged, readRow, fieldsOf, form}
+use Rattle.feed.specs.declared.Values.{Values}
+use Rattle.feed.specs.Reading.{Reading, good, bad, addressOf, outOfRange, hasHostBits, valueFault, judgedValues, valuesOf, judged, readRow, fieldsOf, form}
 
 -- the numbers of a row are in range
-pub record InRange (ns : List (List ℕ)) : Type 0 where
-  pub first : fieldAt ns 0 ≤ 255
-  pub second : fieldAt ns 1 ≤ 255
-  pub third : fieldAt ns 2 ≤ 255
-  pub fourth : fieldAt ns 3 ≤ 255
-  pub len : fieldAt ns 4 ≤ 32
-  pub hop-given : fieldAt ns 5 ≡ 0 → ⊥
-  pub hop-fits : fieldAt ns 5 ≤ 65535
+pub record InRange (v : Values) : Type 0 where
+  pub first : v .a ≤ 255
+  pub second : v .b ≤ 255
+  pub third : v .c ≤ 255
+  pub fourth : v .d ≤ 255
+  pub len : v .len ≤ 32
+  pub hop-given : v .hop ≡ 0 → ⊥
+  pub hop-fits : v .hop ≤ 65535
 
-module _ (ns : List (List ℕ)) (e : outOfRange ns ≡ false) where
+module _ (v : Values) (e : outOfRange v ≡ false) where
   octets : Bool
-  octets = ltb 255 (fieldAt ns 0) || ltb 255 (fieldAt ns 1) || ltb 255 (fieldAt ns 2) || ltb 255 (fieldAt ns 3)
+  octets = ltb 255 (v .a) || ltb 255 (v .b) || ltb 255 (v .c) || ltb 255 (v .d)
 
   hops : Bool
-  hops = eqb (fieldAt ns 5) 0 || ltb 65535 (fieldAt ns 5)
+  hops = eqb (v .hop) 0 || ltb 65535 (v .hop)
 
-  outer : ((octets || ltb 32 (fieldAt ns 4)) ≡ false) × (hops ≡ false)
+  outer : ((octets || ltb 32 (v .len)) ≡ false) × (hops ≡ false)
   unfolding outOfRange octets hops
-  outer = or-neither (octets || ltb 32 (fieldAt ns 4)) hops e
+  outer = or-neither (octets || ltb 32 (v .len)) hops e
 
-  inner : (octets ≡ false) × (ltb 32 (fieldAt ns 4) ≡ false)
-  inner = or-neither octets (ltb 32 (fieldAt ns 4)) (outer .0)
+  inner : (octets ≡ false) × (ltb 32 (v .len) ≡ false)
+  inner = or-neither octets (ltb 32 (v .len)) (outer .0)
 
-  three : ((ltb 255 (fieldAt ns 0) || ltb 255 (fieldAt ns 1) || ltb 255 (fieldAt ns 2)) ≡ false) × (ltb 255 (fieldAt ns 3) ≡ false)
+  three : ((ltb 255 (v .a) || ltb 255 (v .b) || ltb 255 (v .c)) ≡ false) × (ltb 255 (v .d) ≡ false)
   unfolding octets
-  three = or-neither (ltb 255 (fieldAt ns 0) || ltb 255 (fieldAt ns 1) || ltb 255 (fieldAt ns 2)) (ltb 255 (fieldAt ns 3)) (inner .0)
+  three = or-neither (ltb 255 (v .a) || ltb 255 (v .b) || ltb 255 (v .c)) (ltb 255 (v .d)) (inner .0)
 
-  two : ((ltb 255 (fieldAt ns 0) || ltb 255 (fieldAt ns 1)) ≡ false) × (ltb 255 (fieldAt ns 2) ≡ false)
-  two = or-neither (ltb 255 (fieldAt ns 0) || ltb 255 (fieldAt ns 1)) (ltb 255 (fieldAt ns 2)) (three .0)
+  two : ((ltb 255 (v .a) || ltb 255 (v .b)) ≡ false) × (ltb 255 (v .c) ≡ false)
+  two = or-neither (ltb 255 (v .a) || ltb 255 (v .b)) (ltb 255 (v .c)) (three .0)
 
-  one : (ltb 255 (fieldAt ns 0) ≡ false) × (ltb 255 (fieldAt ns 1) ≡ false)
-  one = or-neither (ltb 255 (fieldAt ns 0)) (ltb 255 (fieldAt ns 1)) (two .0)
+  one : (ltb 255 (v .a) ≡ false) × (ltb 255 (v .b) ≡ false)
+  one = or-neither (ltb 255 (v .a)) (ltb 255 (v .b)) (two .0)
 
-  hop-parts : (eqb (fieldAt ns 5) 0 ≡ false) × (ltb 65535 (fieldAt ns 5) ≡ false)
+  hop-parts : (eqb (v .hop) 0 ≡ false) × (ltb 65535 (v .hop) ≡ false)
   unfolding hops
-  hop-parts = or-neither (eqb (fieldAt ns 5) 0) (ltb 65535 (fieldAt ns 5)) (outer .1)
+  hop-parts = or-neither (eqb (v .hop) 0) (ltb 65535 (v .hop)) (outer .1)
 
-  pub in-range : InRange ns
+  pub in-range : InRange v
   in-range = record {
     first = ltb-false _ _ (one .0);
     second = ltb-false _ _ (one .1);
@@ -68,38 +69,38 @@ abbrev pub Sound : Reading → Type 0
 Sound (good k h) = (isPrefix k ≡ true) × (h ≡ 0 → ⊥) × (h ≤ 65535)
 Sound (bad n) = (1 ≤ n) × (n ≤ 3)
 
-no-host-bits : (ns : List (List ℕ)) → hasHostBits ns ≡ false → hostBits (fieldAt ns 4) (addressOf ns) ≡ 0
+no-host-bits : (v : Values) → hasHostBits v ≡ false → hostBits (v .len) (addressOf v) ≡ 0
 unfolding hasHostBits
-no-host-bits ns e = eqb-true _ _ (not-false (eqb (hostBits (fieldAt ns 4) (addressOf ns)) 0) e)
+no-host-bits v e = eqb-true _ _ (not-false (eqb (hostBits (v .len) (addressOf v)) 0) e)
 
-good-prefix : (ns : List (List ℕ)) → InRange ns → hasHostBits ns ≡ false → isPrefix (keyOf (addressOf ns) (fieldAt ns 4)) ≡ true
-good-prefix ns i e = parts-prefix (keyOf (addressOf ns) (fieldAt ns 4)) (record {
+good-prefix : (v : Values) → InRange v → hasHostBits v ≡ false → isPrefix (keyOf (addressOf v) (v .len)) ≡ true
+good-prefix v i e = parts-prefix (keyOf (addressOf v) (v .len)) (record {
   short = subst (λ x. x ≤ 32) (sym l) (i .len);
   within = subst (λ x. x < addresses) (sym n) fits;
-  aligned = subst (λ x. hostBits x (network (keyOf (addressOf ns) (fieldAt ns 4))) ≡ 0) (sym l)
-      (subst (λ x. hostBits (fieldAt ns 4) x ≡ 0) (sym n) (no-host-bits ns e));
+  aligned = subst (λ x. hostBits x (network (keyOf (addressOf v) (v .len))) ≡ 0) (sym l)
+      (subst (λ x. hostBits (v .len) x ≡ 0) (sym n) (no-host-bits v e));
 })
   where
-    small : fieldAt ns 4 < 64
+    small : v .len < 64
     small = omega (arith, i .len)
 
-    l : lengthOf (keyOf (addressOf ns) (fieldAt ns 4)) ≡ fieldAt ns 4
-    l = length-key (addressOf ns) (fieldAt ns 4) small
+    l : lengthOf (keyOf (addressOf v) (v .len)) ≡ v .len
+    l = length-key (addressOf v) (v .len) small
 
-    n : network (keyOf (addressOf ns) (fieldAt ns 4)) ≡ addressOf ns
-    n = network-key (addressOf ns) (fieldAt ns 4) small
+    n : network (keyOf (addressOf v) (v .len)) ≡ addressOf v
+    n = network-key (addressOf v) (v .len) small
 
-    fits : addressOf ns < addresses
+    fits : addressOf v < addresses
     fits = omega (arith, i .first, i .second, i .third, i .fourth)
 
-judged-sound : (ns : List (List ℕ)) → Sound (judged (some ns))
-unfolding judged numberFault firstFault
-judged-sound ns = go (outOfRange ns) (hasHostBits ns) refl refl
+judged-sound : (v : Values) → Sound (judgedValues v)
+unfolding judgedValues valueFault firstFault
+judged-sound v = go (outOfRange v) (hasHostBits v) refl refl
   where
-    go : (b c : Bool) → outOfRange ns ≡ b → hasHostBits ns ≡ c → Sound (cond (eqb (cond b 2 (cond c 3 0)) 0) (good (keyOf (addressOf ns) (fieldAt ns 4)) (fieldAt ns 5)) (bad (cond b 2 (cond c 3 0))))
+    go : (b c : Bool) → outOfRange v ≡ b → hasHostBits v ≡ c → Sound (cond (eqb (cond b 2 (cond c 3 0)) 0) (good (keyOf (addressOf v) (v .len)) (v .hop)) (bad (cond b 2 (cond c 3 0))))
     go true c e f = (lit≤ tt, lit≤ tt)
     go false true e f = (lit≤ tt, lit≤ tt)
-    go false false e f = (good-prefix ns (in-range ns e) f, in-range ns e .hop-given, in-range ns e .hop-fits)
+    go false false e f = (good-prefix v (in-range v e) f, in-range v e .hop-given, in-range v e .hop-fits)
 
 pub read-row-sound : (bytes : List ℕ) → Sound (readRow bytes)
 unfolding readRow judged
@@ -107,4 +108,4 @@ read-row-sound bytes = go (fieldsOf form bytes)
   where
     go : (o : Option (List (List ℕ))) → Sound (judged o)
     go none = (lit≤ tt, lit≤ tt)
-    go (some ns) = judged-sound ns
+    go (some ns) = judged-sound (valuesOf ns)

@@ -9,6 +9,7 @@ use lib.ListN.{length, getD, drop}
 use lib.Dec.{leb, ltb, eqb}
 use Rattle.cidr.specs.Prefix.{dotted, keyOf, hostBits}
 use Rattle.ground.specs.Numbers.{check, firstFault}
+use Rattle.feed.specs.declared.Values.{Values}
 use Rattle.feed.specs.Rows.{dot, slash, space, digit0, digit9}
 
 -- the row numbers
@@ -96,37 +97,40 @@ unfoldable pub valueFrom : ℕ → List ℕ → ℕ
 valueFrom v [] = v
 valueFrom v (d ∷ ds) = valueFrom (v * 10 + (d - digit0)) ds
 
--- the value of the number at a place of the form: octets at 0 to 3, the length at 4, the hop at 5
-unfoldable pub fieldAt : List (List ℕ) → ℕ → ℕ
-fieldAt ns i = valueFrom 0 (getD ns i [])
+-- the values of the six numbers of a row of the form
+unfoldable pub valueAt : List (List ℕ) → ℕ → ℕ
+valueAt ns i = valueFrom 0 (getD ns i [])
 
-abbrev pub addressOf : List (List ℕ) → ℕ
-addressOf ns = dotted (fieldAt ns 0) (fieldAt ns 1) (fieldAt ns 2) (fieldAt ns 3)
+unfoldable pub valuesOf : List (List ℕ) → Values
+valuesOf ns = record { a = valueAt ns 0; b = valueAt ns 1; c = valueAt ns 2; d = valueAt ns 3; len = valueAt ns 4; hop = valueAt ns 5 }
+
+abbrev pub addressOf : Values → ℕ
+addressOf v = dotted (v .a) (v .b) (v .c) (v .d)
 
 -- "range: an octet over 255, length over 32, hop 0 or over 65,535"
-unfoldable pub outOfRange : List (List ℕ) → Bool
-outOfRange ns =
-    (ltb 255 (fieldAt ns 0) || ltb 255 (fieldAt ns 1) || ltb 255 (fieldAt ns 2) || ltb 255 (fieldAt ns 3))
-    || ltb 32 (fieldAt ns 4)
-    || (eqb (fieldAt ns 5) 0 || ltb 65535 (fieldAt ns 5))
+unfoldable pub outOfRange : Values → Bool
+outOfRange v =
+    (ltb 255 (v .a) || ltb 255 (v .b) || ltb 255 (v .c) || ltb 255 (v .d)) || ltb 32 (v .len) || (eqb (v .hop) 0 || ltb 65535 (v .hop))
 
 -- "host bits: a bit of the address beyond the length is 1"
-unfoldable pub hasHostBits : List (List ℕ) → Bool
-hasHostBits ns = not (eqb (hostBits (fieldAt ns 4) (addressOf ns)) 0)
+unfoldable pub hasHostBits : Values → Bool
+hasHostBits v = not (eqb (hostBits (v .len) (addressOf v)) 0)
 
 -- what a row says by itself: a prefix, as its key, with a hop, or its number 1, 2 or 3
 pub data Reading : Type 0 where
   good : ℕ → ℕ → Reading
   bad : ℕ → Reading
 
--- the number of the first fault of six numbers that are of the form; 0, as of a row that is taken, where there is none
-unfoldable pub numberFault : List (List ℕ) → ℕ
-numberFault ns = firstFault (check (outOfRange ns) rowRange ∷ check (hasHostBits ns) rowHostBits ∷ [])
+-- the number of the first fault of a row's values; 0, as of a row that is taken, where there is none
+unfoldable pub valueFault : Values → ℕ
+valueFault v = firstFault (check (outOfRange v) rowRange ∷ check (hasHostBits v) rowHostBits ∷ [])
+
+unfoldable pub judgedValues : Values → Reading
+judgedValues v = cond (eqb (valueFault v) 0) (good (keyOf (addressOf v) (v .len)) (v .hop)) (bad (valueFault v))
 
 unfoldable pub judged : Option (List (List ℕ)) → Reading
 judged none = bad rowShape
-judged (some ns) =
-    cond (eqb (numberFault ns) 0) (good (keyOf (addressOf ns) (fieldAt ns 4)) (fieldAt ns 5)) (bad (numberFault ns))
+judged (some ns) = judgedValues (valuesOf ns)
 
 -- the reading of a row: the whole row's shape first, then its values
 unfoldable pub readRow : List ℕ → Reading
