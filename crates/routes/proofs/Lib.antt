@@ -2,3 +2,8 @@ pub mod Row
 pub mod WellFormed
 pub mod Plain
 pub mod Change
+mod Rest
+mod Formed
+mod LastMatch
+pub mod Settled
+mod Answer

@@ -3,3 +3,4 @@ pub mod WellFormed
 pub mod Plain
 pub mod Change
 pub mod Lookup
+pub mod Looked
