@@ -13,6 +13,7 @@ use Rattle.routes.specs.Plain.{plain}
 use Rattle.routes.specs.Lookup.{lookupChecks, lookupNumber, lookupHop, halfChecks, halfNumber, halfLabel}
 use Rattle.routes.specs.Looked.{lookedNumber, lookedHop, LookedUp, HalfLookedUp}
 
+-- the hop of a formed list, and 11 for another
 abbrev pub answer : Bool → ℕ → Looked
 answer ok hop = cond ok (Hop hop) IllFormed
 

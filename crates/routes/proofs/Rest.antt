@@ -15,6 +15,7 @@ use Rattle.routes.specs.Row.{Row, row, rowsOf, listRoom}
 abbrev pub rowAt : List ℕ → List ℕ → ℕ → Row
 rowAt keys hops i = row (getD keys i 0) (getD hops i 0)
 
+-- the rows from a place on
 pub rest : ℕ → List ℕ → List ℕ → ℕ → List Row
 rest count keys hops i = rowsOf (count - i) (drop i keys) (drop i hops)
 
