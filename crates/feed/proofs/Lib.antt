@@ -1,3 +1,5 @@
 pub mod Reading
 pub mod Import
 mod Parse
+mod Judging
+mod RowParse

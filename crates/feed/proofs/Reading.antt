@@ -73,7 +73,7 @@ no-host-bits : (v : Values) → hasHostBits v ≡ false → hostBits (v .len) (a
 unfolding hasHostBits
 no-host-bits v e = eqb-true _ _ (not-false (eqb (hostBits (v .len) (addressOf v)) 0) e)
 
-good-prefix : (v : Values) → InRange v → hasHostBits v ≡ false → isPrefix (keyOf (addressOf v) (v .len)) ≡ true
+pub good-prefix : (v : Values) → InRange v → hasHostBits v ≡ false → isPrefix (keyOf (addressOf v) (v .len)) ≡ true
 good-prefix v i e = parts-prefix (keyOf (addressOf v) (v .len)) (record {
   short = subst (λ x. x ≤ 32) (sym l) (i .len);
   within = subst (λ x. x < addresses) (sym n) fits;

@@ -1,6 +1,5 @@
 -- What the answers of the feed's functions say in document 01's words.
 -- Assumes nothing.
-use Prim.Native.Nat.{ℕ}
 use Rattle.feed.specs.declared.RowRead.{RowRead}
 use Rattle.feed.specs.declared.RowRead.the-variants.{Good, Shape, Range, HostBits}
 use Rattle.feed.specs.Reading.{Reading, good, bad, rowShape, rowRange, rowHostBits}

@@ -2,7 +2,7 @@
 -- Leading zeros are read as decimal. CR, tab and further spaces are bad shape." Then numbers 1, 2 and 3 of the table, in its order.
 -- Assumes nothing.
 use mathlib.Core.Bool.{Bool, true, false, not, cond, _&&_, _||_}
-use mathlib.Core.List.{List, [], _∷_}
+use mathlib.Core.List.{List, [], _∷_, map}
 use mathlib.Core.Option.{Option, none, some}
 use Prim.Native.Nat.{ℕ, _+_, _-_, _*_}
 use lib.ListN.{length, getD, drop}
@@ -88,8 +88,8 @@ unfoldable pub fieldsOf : List Field → List ℕ → Option (List (List ℕ))
 fieldsOf [] bs = cond (isNumber hopDigits (digits bs) && isEnd (afterDigits bs)) (some (digits bs ∷ [])) none
 fieldsOf (f ∷ fs) bs =
     elim (isNumber (f .most) (digits bs) && begins (f .mark) (afterDigits bs)) [
-      true ↦ before (digits bs) (fieldsOf fs (drop 1 (afterDigits bs)))
-    | false ↦ none
+      | true ↦ before (digits bs) (fieldsOf fs (drop 1 (afterDigits bs)))
+      | false ↦ none
     ]
 
 -- the value of digits, read as decimal from the first on
@@ -97,12 +97,12 @@ unfoldable pub valueFrom : ℕ → List ℕ → ℕ
 valueFrom v [] = v
 valueFrom v (d ∷ ds) = valueFrom (v * 10 + (d - digit0)) ds
 
--- the values of the six numbers of a row of the form
-unfoldable pub valueAt : List (List ℕ) → ℕ → ℕ
-valueAt ns i = valueFrom 0 (getD ns i [])
+-- the values of the six numbers of a row of the form, by their places
+unfoldable pub inPlaces : List ℕ → Values
+inPlaces vs = record { a = getD vs 0 0; b = getD vs 1 0; c = getD vs 2 0; d = getD vs 3 0; len = getD vs 4 0; hop = getD vs 5 0 }
 
 unfoldable pub valuesOf : List (List ℕ) → Values
-valuesOf ns = record { a = valueAt ns 0; b = valueAt ns 1; c = valueAt ns 2; d = valueAt ns 3; len = valueAt ns 4; hop = valueAt ns 5 }
+valuesOf ns = inPlaces (map (valueFrom 0) ns)
 
 abbrev pub addressOf : Values → ℕ
 addressOf v = dotted (v .a) (v .b) (v .c) (v .d)

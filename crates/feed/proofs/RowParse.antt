@@ -1,0 +1,203 @@
+-- How a row is read: five numbers with their marks, one after the other, then the hop, after which the row ends.
+-- Assumes nothing.
+use mathlib.Core.Path.{_≡_, refl, sym, ap, _∙_}
+use mathlib.Core.Logic.{_⊎_, inl, inr}
+use mathlib.Core.Bool.{Bool, true, false, cond, _&&_}
+use mathlib.Core.List.{List, [], _∷_, _++_, append-assoc}
+use mathlib.Core.Option.{Option, none, some}
+use Prim.Native.Nat.{ℕ, zero, suc, _+_, _≤_, _<_}
+use native.Mathlib.Nat.{pos-of-ne-zero}
+use native.Mathlib.Numerals.{add-one}
+use native.Mathlib.Omega.{arith}
+use lib.ListN.{length, getD, take, drop, set, length-drop, length-set, List·getD-append, drop-of-length-le}
+use lib.Seq.{drop-cons, drop-drop, take-all, take-suc-set, getD-at}
+use lib.Dec.{leb, lit≤}
+use borrow.Author.Tests.{leb-true, le-leb, lt-leb}
+use Rattle.ground.proofs.Truth.{decided, never-both, cond-true, cond-false, and-right}
+use Rattle.feed.specs.declared.Values.{Values}
+use Rattle.feed.specs.declared.Digits.{Digits}
+use Rattle.feed.specs.declared.Field.{Field}
+use Rattle.feed.specs.declared.Field.the-variants.{Read, Unlike}
+use Rattle.feed.specs.Reading.{bad, rowShape, isDigit, digits, afterDigits, isNumber, begins, isEnd, before, Field as Part, field, form, fieldsOf, valueFrom, inPlaces, judgedValues, valuesOf, judged, readRow}
+use Rattle.feed.specs.Fields.{digitsFrom, fieldFrom, readFrom}
+use Rattle.feed.proofs.Parse.{after-is, digits-within, digits-next, digits-value}
+
+-- five values and the hop, in their places
+module _ (v : List ℕ) (hop : ℕ) (five : length v ≡ 5) where
+  in-places : inPlaces (v ++ hop ∷ []) ≡ record { a = getD v 0 0; b = getD v 1 0; c = getD v 2 0; d = getD v 3 0; len = getD v 4 0; hop = hop }
+  unfolding inPlaces
+  in-places =
+      rw (List·getD-append v (hop ∷ []) 0 0 (omega arith), List·getD-append v (hop ∷ []) 0 1 (omega arith), List·getD-append v (hop ∷ []) 0 2 (omega arith), List·getD-append v (hop ∷ []) 0 3 (omega arith), List·getD-append v (hop ∷ []) 0 4 (omega arith), getD-at v hop [] 0 5 five)
+
+-- The hop: 1 to 5 digits, after which the row ends.
+module _ (row : List ℕ) (at : ℕ) (h : at ≤ length row) (v : List ℕ) (d : Digits) (e : d ≡ digitsFrom row at 5) where
+  abbrev ds : List ℕ
+  ds = digits (drop at row)
+
+  within : at + length ds ≤ length row
+  within = omega (arith, digits-within (drop at row), length-drop at row)
+
+  not-a-hop : (isNumber 5 ds && isEnd (afterDigits (drop at row))) ≡ false → bad rowShape ≡ readFrom v (fieldsOf [] (drop at row))
+  unfolding readFrom fieldsOf
+  not-a-hop f = rw f
+
+  pub hop-none : d .next ≡ at → bad rowShape ≡ readFrom v (fieldsOf [] (drop at row))
+  hop-none q = not-a-hop (rw (lt-leb 1 (length ds) (omega (arith, digits-next row at 5 d e))))
+
+  pub hop-more : d .next < length row → bad rowShape ≡ readFrom v (fieldsOf [] (drop at row))
+  hop-more q = not-a-hop (go (decided (isNumber 5 ds)))
+    where
+      go : (isNumber 5 ds ≡ true) ⊎ (isNumber 5 ds ≡ false) → (isNumber 5 ds && isEnd (afterDigits (drop at row))) ≡ false
+      go (inl n) =
+          let few : length ds ≤ 5 = leb-true (length ds) 5 (and-right (leb 1 (length ds)) (leb (length ds) 5) n) in
+          rw (n, after-is (drop at row), drop-drop (length ds) at row, drop-cons row (at + length ds) 0 (omega (arith, digits-next row at 5 d e)))
+      go (inr n) = rw n
+
+  pub hop-last : (d .next ≡ at → ⊥) → length row ≤ d .next → length v ≡ 5
+      → judgedValues (record { a = getD v 0 0; b = getD v 1 0; c = getD v 2 0; d = getD v 3 0; len = getD v 4 0; hop = d .value }) ≡ readFrom v (fieldsOf [] (drop at row))
+  unfolding readFrom fieldsOf
+  hop-last moved end five =
+      rw (le-leb 1 (length ds) one, le-leb (length ds) 5 few, after-is (drop at row), drop-drop (length ds) at row, drop-all)
+      (sym (ap judgedValues (in-places v (valueFrom 0 ds) five ∙ ap filled value)))
+    where
+      few : length ds ≤ 5
+      few = omega (arith, digits-next row at 5 d e, within)
+
+      one : 1 ≤ length ds
+      one = pos-of-ne-zero (λ z. moved (omega (arith, digits-next row at 5 d e)))
+
+      drop-all : drop (at + length ds) row ≡ []
+      drop-all = drop-of-length-le row {i = at + length ds} (omega (arith, digits-next row at 5 d e))
+
+      filled : ℕ → Values
+      filled x = record { a = getD v 0 0; b = getD v 1 0; c = getD v 2 0; d = getD v 3 0; len = getD v 4 0; hop = x }
+
+      value : valueFrom 0 ds ≡ d .value
+      value = sym (digits-value row at 5 d e ∙ ap (valueFrom 0) (take-all 5 ds few))
+
+fields-step : (m k : ℕ) (fs : List Part) (bs : List ℕ)
+    → fieldsOf (field m k ∷ fs) bs
+    ≡ cond (isNumber m (digits bs) && begins k (afterDigits bs)) (before (digits bs) (fieldsOf fs (drop 1 (afterDigits bs)))) none
+unfolding fieldsOf
+fields-step m k fs bs = go (isNumber m (digits bs) && begins k (afterDigits bs))
+  where
+    go : (t : Bool)
+        → elim t [ true ↦ before (digits bs) (fieldsOf fs (drop 1 (afterDigits bs))) | false ↦ none ]
+        ≡ cond t (before (digits bs) (fieldsOf fs (drop 1 (afterDigits bs)))) none
+    go true = refl
+    go false = refl
+
+-- One number of the form with its mark: what is left of the form is read from the place after the mark.
+module _ (row : List ℕ) (at m k : ℕ) (h : at ≤ length row) (fs : List Part) where
+  abbrev test : Bool
+  test = isNumber m (digits (drop at row)) && begins k (afterDigits (drop at row))
+
+  begins-some : (bs : List ℕ) → begins k bs ≡ true → 1 ≤ length bs
+  begins-some [] e = never-both e refl
+  begins-some (b ∷ bs) e = omega arith
+
+  pub record Stepped (value next : ℕ) : Type 0 where
+    pub rest : fieldsOf (field m k ∷ fs) (drop at row) ≡ before (digits (drop at row)) (fieldsOf fs (drop next row))
+    pub value-is : value ≡ valueFrom 0 (digits (drop at row))
+    pub next-in : next ≤ length row
+
+  pub unlike-none : fieldFrom row at m k ≡ Unlike → fieldsOf (field m k ∷ fs) (drop at row) ≡ none
+  unfolding fieldFrom
+  unlike-none e = go (decided test)
+    where
+      go : (test ≡ true) ⊎ (test ≡ false) → fieldsOf (field m k ∷ fs) (drop at row) ≡ none
+      go (inl t) = let z : _≡_ {A = Field} (Read (valueFrom 0 (digits (drop at row))) (at + length (digits (drop at row)) + 1)) Unlike = sym (cond-true _ _ t) ∙ e in absurd (let o : _≡_ {A = ℕ} 0 1 = cc in omega arith)
+      go (inr t) = fields-step m k fs (drop at row) ∙ cond-false _ _ t
+
+  pub read-steps : (value next : ℕ) → fieldFrom row at m k ≡ Read value next → Stepped value next
+  unfolding fieldFrom
+  read-steps value next e = go (decided test)
+    where
+      go : (test ≡ true) ⊎ (test ≡ false) → Stepped value next
+      go (inl t) =
+          let z : _≡_ {A = Field} (Read (valueFrom 0 (digits (drop at row))) (at + length (digits (drop at row)) + 1)) (Read value next) = sym (cond-true _ _ t) ∙ e in
+          let v : valueFrom 0 (digits (drop at row)) ≡ value = cc in
+          let n : at + length (digits (drop at row)) + 1 ≡ next = cc in
+          let there : drop 1 (afterDigits (drop at row)) ≡ drop next row = rw (after-is (drop at row), drop-drop (length (digits (drop at row))) at row, drop-drop 1 (at + length (digits (drop at row))) row, n) in
+          let more = begins-some (afterDigits (drop at row)) (and-right (isNumber m (digits (drop at row))) _ t) in
+          record {
+            rest = fields-step m k fs (drop at row) ∙ (cond-true _ _ t ∙ rw there);
+            value-is = sym v;
+            next-in = omega (arith, ap length (after-is (drop at row)), length-drop (length (digits (drop at row))) (drop at row), length-drop at row);
+          }
+      go (inr t) = absurd (let z : _≡_ {A = Field} Unlike (Read value next) = sym (cond-false _ _ t) ∙ e in let o : _≡_ {A = ℕ} 0 1 = cc in omega arith)
+
+-- Where the loop over the five numbers stands: the row says what the values so far and the rest of the row say.
+pub record Rowing (row v : List ℕ) (at i : ℕ) : Type 0 where
+  pub within : at ≤ length row
+  pub five : length v ≡ 5
+  pub goes-on : readRow row ≡ readFrom (take i v) (fieldsOf (drop i form) (drop at row))
+
+pub rowing-start : (row v : List ℕ) → length v ≡ 5 → Rowing row v 0 0
+unfolding readRow readFrom judged valuesOf
+rowing-start row v e = record {
+  within = omega arith;
+  five = e;
+  goes-on = go (fieldsOf form row);
+}
+  where
+    go : (o : Option (List (List ℕ))) → judged o ≡ readFrom [] o
+    go none = refl
+    go (some ns) = refl
+
+-- the digits and marks of the form, by their places
+abbrev pub mosts : List ℕ
+mosts = 3 ∷ 3 ∷ 3 ∷ 3 ∷ 2 ∷ []
+
+abbrev pub marks : List ℕ
+marks = 46 ∷ 46 ∷ 46 ∷ 47 ∷ 32 ∷ []
+
+form-at : (i : ℕ) → i < 5 → drop i form ≡ field (getD mosts i 0) (getD marks i 0) ∷ drop (i + 1) form
+form-at zero l = refl
+form-at (suc zero) l = refl
+form-at (suc (suc zero)) l = refl
+form-at (suc (suc (suc zero))) l = refl
+form-at (suc (suc (suc (suc zero)))) l = refl
+form-at (suc (suc (suc (suc (suc i))))) l = absurd (omega arith)
+
+read-more : (vs : List ℕ) (ds : List ℕ) (o : Option (List (List ℕ))) → readFrom vs (before ds o) ≡ readFrom (vs ++ valueFrom 0 ds ∷ []) o
+unfolding readFrom
+read-more vs ds none = refl
+read-more vs ds (some ns) = rw append-assoc
+
+module _ {row v : List ℕ} {at i : ℕ} (s : Rowing row v at i) (l : i < 5) where
+  pub rowing-unlike : fieldFrom row at (getD mosts i 0) (getD marks i 0) ≡ Unlike → bad rowShape ≡ readRow row
+  unfolding readFrom
+  rowing-unlike e = sym (s .goes-on ∙ rw (form-at i l, unlike-none row at (getD mosts i 0) (getD marks i 0) (s .within) (drop (i + 1) form) e))
+
+  pub rowing-more : (value next : ℕ) → fieldFrom row at (getD mosts i 0) (getD marks i 0) ≡ Read value next → Rowing row (set v i value) next (i + 1)
+  rowing-more value next e =
+      let t = read-steps row at (getD mosts i 0) (getD marks i 0) (s .within) (drop (i + 1) form) value next e in
+      record {
+        within = t .next-in;
+        five = length-set v i value ∙ s .five;
+        goes-on =
+            s .goes-on
+            ∙ rw (form-at i l, t .rest, read-more, ← t .value-is, add-one, take-suc-set v i value (omega (arith, s .five)));
+      }
+
+-- the five numbers have at most 5 digits, and no mark is a digit
+pub most-few : (i : ℕ) → i < 5 → getD mosts i 0 ≤ 5
+most-few zero l = lit≤ tt
+most-few (suc zero) l = lit≤ tt
+most-few (suc (suc zero)) l = lit≤ tt
+most-few (suc (suc (suc zero))) l = lit≤ tt
+most-few (suc (suc (suc (suc zero)))) l = lit≤ tt
+most-few (suc (suc (suc (suc (suc i))))) l = absurd (omega arith)
+
+pub mark-no-digit : (i : ℕ) → i < 5 → isDigit (getD marks i 0) ≡ false
+mark-no-digit zero l = refl
+mark-no-digit (suc zero) l = refl
+mark-no-digit (suc (suc zero)) l = refl
+mark-no-digit (suc (suc (suc zero))) l = refl
+mark-no-digit (suc (suc (suc (suc zero)))) l = refl
+mark-no-digit (suc (suc (suc (suc (suc i))))) l = absurd (omega arith)
+
+pub rowing-end : {row v : List ℕ} {at i : ℕ} → Rowing row v at i → i ≡ 5 → readFrom v (fieldsOf [] (drop at row)) ≡ readRow row
+rowing-end {row} {v} {at} {i} s e =
+    sym (s .goes-on ∙ rw (e, take-all 5 v (omega (arith, s .five))))
