@@ -1,5 +1,7 @@
 pub mod Reading
-pub mod Import
+pub mod Importing
 mod Parse
 mod Judging
 mod RowParse
+pub mod Splitting
+mod Taking

@@ -3,7 +3,7 @@
 -- Assumes nothing.
 use mathlib.Core.Bool.{cond}
 use mathlib.Core.List.{List, [], _∷_}
-use Prim.Native.Nat.{ℕ}
+use Prim.Native.Nat.{ℕ, suc}
 use lib.Dec.{eqb}
 
 -- the bytes that a row's form names: LF, '.', '/', space, and the digits from '0' to '9'
@@ -29,6 +29,11 @@ digit9 = 57
 abbrev pub grown : ℕ → List (List ℕ) → List (List ℕ)
 grown b [] = (b ∷ []) ∷ []
 grown b (r ∷ rs) = (b ∷ r) ∷ rs
+
+-- how many bytes stand before the first LF, or in all where there is none: the length of the first row
+unfoldable pub rowLength : List ℕ → ℕ
+rowLength [] = 0
+rowLength (b ∷ bs) = cond (eqb b LF) 0 (suc (rowLength bs))
 
 -- the rows of a feed: an LF ends the row before it, any other byte belongs to the row that follows
 unfoldable pub rowsIn : List ℕ → List (List ℕ)
