@@ -5,3 +5,4 @@ mod Judging
 mod RowParse
 pub mod Splitting
 mod Taking
+mod Filling
