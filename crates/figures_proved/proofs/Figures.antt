@@ -14,7 +14,7 @@ use Rattle.routes.specs.Plain.{matching, longer, longest, plain}
 use Rattle.routes.specs.Change.{listed, announced, withdrawn}
 use Rattle.routes.specs.Lookup.{lookupChecks, lookupNumber, lookupHop, halfChecks, halfNumber, halfLabel}
 use Rattle.feed.specs.Rows.{rowsIn}
-use Rattle.feed.specs.Reading.{digits, afterDigits, fieldsOf, valueFrom, fieldAt, outOfRange, hasHostBits, numberFault, judged, readRow}
+use Rattle.feed.specs.Reading.{digits, afterDigits, fieldsOf, valueFrom, inPlaces, valuesOf, outOfRange, hasHostBits, valueFault, judgedValues, judged, readRow}
 use Rattle.feed.specs.Import.{rowNumber, listAfter, rowNumbersFrom, rowNumbers, importedFrom, imported, howMany, countsOf, importChecks, importNumber, importCounts, importReport, importKeys, importTally}
 use Rattle.feed.specs.Pull.{pullOf, pull}
 use Rattle.runs.specs.Bytes.{runBytes, startAt, hopAt}
@@ -29,9 +29,9 @@ use Rattle.figures_proved.specs.Marked.{marked}
 use Rattle.figures_proved.specs.Corners.{corners}
 
 pub marked-hold : T (allHold marked)
-unfolding allHold same firstFault stretch among turns size hostBits holds covers those matching longer longest plain listed announced withdrawn rowsIn digits afterDigits fieldsOf valueFrom fieldAt outOfRange hasHostBits numberFault judged readRow rowNumber listAfter rowNumbersFrom rowNumbers width blockHop bit wordFrom wordsOf basesFrom basesOf packedHopsOf covering relabelled firstHalf secondHalf ones onesIn
+unfolding allHold same firstFault stretch among turns size hostBits holds covers those matching longer longest plain listed announced withdrawn rowsIn digits afterDigits fieldsOf valueFrom inPlaces valuesOf outOfRange hasHostBits valueFault judgedValues judged readRow rowNumber listAfter rowNumbersFrom rowNumbers width blockHop bit wordFrom wordsOf basesFrom basesOf packedHopsOf covering relabelled firstHalf secondHalf ones onesIn
 marked-hold = tt
 
 pub corners-hold : T (allHold corners)
-unfolding allHold same written rewritten insertedAt removedAt firstFault ifDone stretch among turns halves halving size hostBits isPrefix holds covers every those rowsOf listRoom prefixes hopsGiven ascends ascending halfRows goodRows wellFormed halfFormed matching longer longest plain listed announced withdrawn lookupChecks lookupNumber lookupHop halfChecks halfNumber halfLabel rowsIn digits afterDigits fieldsOf valueFrom fieldAt outOfRange hasHostBits numberFault judged readRow rowNumber listAfter rowNumbersFrom rowNumbers importedFrom imported howMany countsOf importChecks importNumber importCounts importReport importKeys importTally pullOf pull runBytes startAt hopAt inSlices runChecks runNumber runHop runProbes inBytes hostChecks hostNumber hostHop hostAnswer width blockHop bit wordFrom wordsOf basesFrom basesOf packedHopsOf blockOf onesTo pastPlace packedChecks packedNumber packedHop covering relabelled firstHalf secondHalf splitChecks splitNumber decimalBy decimal dottedText rowText textOf writeChecks writeNumber writeBuffer lineOf countLines runLines ones onesIn
+unfolding allHold same written rewritten insertedAt removedAt firstFault ifDone stretch among turns halves halving size hostBits isPrefix holds covers every those rowsOf listRoom prefixes hopsGiven ascends ascending halfRows goodRows wellFormed halfFormed matching longer longest plain listed announced withdrawn lookupChecks lookupNumber lookupHop halfChecks halfNumber halfLabel rowsIn digits afterDigits fieldsOf valueFrom inPlaces valuesOf outOfRange hasHostBits valueFault judgedValues judged readRow rowNumber listAfter rowNumbersFrom rowNumbers importedFrom imported howMany countsOf importChecks importNumber importCounts importReport importKeys importTally pullOf pull runBytes startAt hopAt inSlices runChecks runNumber runHop runProbes inBytes hostChecks hostNumber hostHop hostAnswer width blockHop bit wordFrom wordsOf basesFrom basesOf packedHopsOf blockOf onesTo pastPlace packedChecks packedNumber packedHop covering relabelled firstHalf secondHalf splitChecks splitNumber decimalBy decimal dottedText rowText textOf writeChecks writeNumber writeBuffer lineOf countLines runLines ones onesIn
 corners-hold = tt

@@ -15,7 +15,8 @@ use Rattle.routes.specs.Change.{announced, withdrawn}
 use Rattle.routes.specs.Lookup.{lookupNumber, lookupHop, halfNumber, halfLabel}
 use Rattle.feed.specs.Rows.{rowsIn}
 use Rattle.feed.specs.Reading.{Reading, good, bad}
-use Rattle.feed.specs.Import.{Counts, countsOf, noCounts, rowNumbers, imported, importNumber, importCounts, importReport, importKeys, importTally}
+use Rattle.feed.specs.declared.Counts.{Counts}
+use Rattle.feed.specs.Import.{countsOf, noCounts, rowNumbers, imported, importNumber, importCounts, importReport, importKeys, importTally}
 use Rattle.feed.specs.Pull.{pull}
 use Rattle.runs.specs.Bytes.{runBytes}
 use Rattle.runs.specs.Lookup.{runNumber, runHop, runProbes, hostAnswer}

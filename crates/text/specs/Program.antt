@@ -9,7 +9,8 @@ use Prim.Native.String.{String, [] as no-text, _∷_ as _then_}
 use lib.ListN.{length}
 use lib.Dec.{ltb}
 use Rattle.feed.specs.Rows.{LF, space}
-use Rattle.feed.specs.Import.{Counts, rowNumbers, imported, countsOf}
+use Rattle.feed.specs.declared.Counts.{Counts}
+use Rattle.feed.specs.Import.{rowNumbers, imported, countsOf}
 use Rattle.runs.specs.Table.{runStarts, runHops}
 use Rattle.text.specs.Text.{decimal, dottedText}
 
