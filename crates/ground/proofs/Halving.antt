@@ -4,7 +4,7 @@
 -- Assumes nothing.
 use mathlib.Core.Path.{_≡_, refl, sym, ap, _∙_}
 use mathlib.Core.Bool.{Bool, true, false, cond}
-use Prim.Native.Nat.{ℕ, zero, suc, _+_, _-_, _/_, _^_, _≤_, _<_, zero-le}
+use Prim.Native.Nat.{ℕ, zero, suc, _+_, _-_, _/_, _%_, _^_, _≤_, _<_, zero-le}
 use native.Mathlib.Nat.{le-refl, zero-add, add-zero, add-suc, suc-add}
 use native.Mathlib.Numerals.{add-one}
 use native.Mathlib.Omega.{arith}
@@ -168,15 +168,15 @@ module _ {at : ℕ → ℕ} {n a low high probes : ℕ} (s : Halfway at n a low 
 
 -- the turn of code that keeps low and how far high is from it: what `up` and `odd` add goes by the probe, so no branch does
 pub halfway-turn : {at : ℕ → ℕ} {n a low apart probes up odd : ℕ} → Halfway at n a low (low + apart) probes → 1 < apart
-    → up ≡ cond (leb (at (low + apart / 2)) a) (apart / 2) 0 → odd ≡ cond (leb (at (low + apart / 2)) a) 1 0
-    → Halfway at n a (low + up) (low + up + (apart + odd) / 2) (probes + 1)
+    → up ≡ cond (leb (at (low + apart / 2)) a) (apart / 2) 0 → odd ≡ cond (leb (at (low + apart / 2)) a) (apart % 2) 0
+    → Halfway at n a (low + up) (low + up + (apart / 2 + odd)) (probes + 1)
 halfway-turn {at} {n} {a} {low} {apart} {probes} {up} {odd} s far u o = go (leb (at (low + apart / 2)) a) refl u o
   where
-    go : (b : Bool) → leb (at (low + apart / 2)) a ≡ b → up ≡ cond b (apart / 2) 0 → odd ≡ cond b 1 0
-        → Halfway at n a (low + up) (low + up + (apart + odd) / 2) (probes + 1)
+    go : (b : Bool) → leb (at (low + apart / 2)) a ≡ b → up ≡ cond b (apart / 2) 0 → odd ≡ cond b (apart % 2) 0
+        → Halfway at n a (low + up) (low + up + (apart / 2 + odd)) (probes + 1)
     go true e u o =
-        let same : low + up + (apart + odd) / 2 ≡ low + apart = omega arith in
+        let same : low + up + (apart / 2 + odd) ≡ low + apart = omega arith in
         rw (same, u) (halfway-up s (low + apart / 2) (omega arith) (omega arith) (leb-true (at (low + apart / 2)) a e))
     go false e u o =
-        let same : low + up + (apart + odd) / 2 ≡ low + apart / 2 = omega arith in
+        let same : low + up + (apart / 2 + odd) ≡ low + apart / 2 = omega arith in
         rw (same, u, add-zero) (halfway-down s (low + apart / 2) (omega arith) (omega arith) (leb-false (at (low + apart / 2)) a e))

@@ -92,7 +92,7 @@ six-parts false x = refl
 
 module _ {bytes : List ℕ} {a from apart : ℕ} (s : RunsHalved bytes a from apart) where
   pub runs-turn : {start up odd : ℕ} → 1 < apart → start ≡ fourFrom bytes (from + apart / 2 * 6)
-      → up ≡ cond (leb start a) (apart / 2 * 6) 0 → odd ≡ cond (leb start a) 1 0 → RunsHalved bytes a (from + up) ((apart + odd) / 2)
+      → up ≡ cond (leb start a) (apart / 2 * 6) 0 → odd ≡ cond (leb start a) (apart % 2) 0 → RunsHalved bytes a (from + up) (apart / 2 + odd)
   runs-turn {start} far four u o =
       let mid = s .low + apart / 2 in
       let same : start ≡ startAt bytes mid = four ∙ start-here bytes mid _ (omega (arith, s .begins)) in

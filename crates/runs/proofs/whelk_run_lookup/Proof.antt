@@ -23,8 +23,8 @@ returns-2 c = host-refused _ _ (no-sixes _ (c .if2 .taken))
 loop-holds : tie.Need-loop-holds Inv-loop μ-loop
 loop-holds c = runs-start _ _ (omega arith)
 
-mul-half : tie.Need-mul-half Inv-loop μ-loop
-mul-half c = omega arith
+mul-step : tie.Need-mul-step Inv-loop μ-loop
+mul-step c = omega arith
 
 add-start-from : tie.Need-add-start-from Inv-loop μ-loop
 add-start-from c = omega arith
@@ -67,7 +67,7 @@ whelk-run-lookup-spec =
     returns
     returns-2
     loop-holds
-    mul-half
+    mul-step
     add-start-from
     start-from-requires
     if-low-requires
