@@ -166,17 +166,17 @@ module _ {at : ℕ → ℕ} {n a low high probes : ℕ} (s : Halfway at n a low 
       goes-on = λ r. s .goes-on (down far (rw half at l) (rw half at r)) ∙ simp (add-one, suc-add, add-suc);
     }
 
--- the turn of code that keeps low and how far high is from it: what `up` and `odd` add goes by the probe, so no branch does
-pub halfway-turn : {at : ℕ → ℕ} {n a low apart probes up odd : ℕ} → Halfway at n a low (low + apart) probes → 1 < apart
-    → up ≡ cond (leb (at (low + apart / 2)) a) (apart / 2) 0 → odd ≡ cond (leb (at (low + apart / 2)) a) (apart % 2) 0
-    → Halfway at n a (low + up) (low + up + (apart / 2 + odd)) (probes + 1)
-halfway-turn {at} {n} {a} {low} {apart} {probes} {up} {odd} s far u o = go (leb (at (low + apart / 2)) a) refl u o
+-- the turn of code that keeps low and how far high is from it: what it adds goes by the probe, so no branch has to
+pub halfway-turn : {at : ℕ → ℕ} {n a low apart probes low′ apart′ : ℕ} → Halfway at n a low (low + apart) probes → 1 < apart
+    → low′ ≡ low + cond (leb (at (low + apart / 2)) a) (apart / 2) 0 → apart′ ≡ apart / 2 + cond (leb (at (low + apart / 2)) a) (apart % 2) 0
+    → Halfway at n a low′ (low′ + apart′) (probes + 1)
+halfway-turn {at} {n} {a} {low} {apart} {probes} {low′} {apart′} s far = go (leb (at (low + apart / 2)) a) refl
   where
-    go : (b : Bool) → leb (at (low + apart / 2)) a ≡ b → up ≡ cond b (apart / 2) 0 → odd ≡ cond b (apart % 2) 0
-        → Halfway at n a (low + up) (low + up + (apart / 2 + odd)) (probes + 1)
-    go true e u o =
-        let same : low + up + (apart / 2 + odd) ≡ low + apart = omega arith in
-        rw (same, u) (halfway-up s (low + apart / 2) (omega arith) (omega arith) (leb-true (at (low + apart / 2)) a e))
-    go false e u o =
-        let same : low + up + (apart / 2 + odd) ≡ low + apart / 2 = omega arith in
-        rw (same, u, add-zero) (halfway-down s (low + apart / 2) (omega arith) (omega arith) (leb-false (at (low + apart / 2)) a e))
+    go : (b : Bool) → leb (at (low + apart / 2)) a ≡ b → low′ ≡ low + cond b (apart / 2) 0 → apart′ ≡ apart / 2 + cond b (apart % 2) 0
+        → Halfway at n a low′ (low′ + apart′) (probes + 1)
+    go true e l k =
+        let same : low′ + apart′ ≡ low + apart = omega arith in
+        rw (same, l) (halfway-up s (low + apart / 2) (omega arith) (omega arith) (leb-true (at (low + apart / 2)) a e))
+    go false e l k =
+        let same : low′ + apart′ ≡ low + apart / 2 = omega arith in
+        rw (same, l, add-zero) (halfway-down s (low + apart / 2) (omega arith) (omega arith) (leb-false (at (low + apart / 2)) a e))

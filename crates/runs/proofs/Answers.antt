@@ -1,7 +1,7 @@
 -- What a run lookup's answer is, case by case: 11 where there are no runs or more than the slices hold, else the hop where halving ends and
 -- its probes; and the same of the number that the C host gets. `RunsHalved` is what code that halves run bytes keeps true.
 -- Assumes nothing.
-use mathlib.Core.Path.{_≡_, refl, _∙_}
+use mathlib.Core.Path.{_≡_, refl, ap, _∙_}
 use mathlib.Core.Bool.{Bool, true, false, cond}
 use mathlib.Core.List.{List}
 use Prim.Native.Nat.{ℕ, _+_, _*_, _/_, _%_, _^_, _≤_, _<_, min, zero-le}
@@ -100,7 +100,7 @@ module _ {bytes : List ℕ} {a from apart : ℕ} (s : RunsHalved bytes a from ap
         low = s .low + cond (leb (startAt bytes mid) a) (apart / 2) 0;
         probes = s .probes + 1;
         begins = omega (arith, s .begins, rw same at u, six-parts (leb (startAt bytes mid) a) (apart / 2));
-        halfway = halfway-turn (s .halfway) far refl (rw same at o);
+        halfway = halfway-turn (s .halfway) far refl (ap (λ x. apart / 2 + x) (rw same at o));
       }
 
   pub runs-end : apart ≤ 1 → hostNumber bytes ≡ 0 → getD bytes (from + 4) 0 * 256 + getD bytes (from + 5) 0 ≡ hostAnswer bytes a
