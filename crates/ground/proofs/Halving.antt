@@ -11,6 +11,7 @@ use native.Mathlib.Omega.{arith}
 use lib.Dec.{leb}
 use borrow.Author.Tests.{leb-true, leb-false, le-leb, lt-leb}
 use Rattle.ground.specs.Halving.{probed, halves, halving}
+use Rattle.ground.specs.Turn.{Turned}
 
 -- how the loop goes from low and high on: it ends at the place `found` after `probes` more probes
 pub data Ends (at : ℕ → ℕ) (a : ℕ) : ℕ → ℕ → ℕ → ℕ → Type 0 where
@@ -166,11 +167,9 @@ module _ {at : ℕ → ℕ} {n a low high probes : ℕ} (s : Halfway at n a low 
       goes-on = λ r. s .goes-on (down far (rw half at l) (rw half at r)) ∙ simp (add-one, suc-add, add-suc);
     }
 
--- the turn of code that keeps low and how far high is from it: what it adds goes by the probe, so no branch has to
 pub halfway-turn : {at : ℕ → ℕ} {n a low apart probes low′ apart′ : ℕ} → Halfway at n a low (low + apart) probes → 1 < apart
-    → low′ ≡ low + cond (leb (at (low + apart / 2)) a) (apart / 2) 0 → apart′ ≡ apart / 2 + cond (leb (at (low + apart / 2)) a) (apart % 2) 0
-    → Halfway at n a low′ (low′ + apart′) (probes + 1)
-halfway-turn {at} {n} {a} {low} {apart} {probes} {low′} {apart′} s far = go (leb (at (low + apart / 2)) a) refl
+    → Turned at a low apart low′ apart′ → Halfway at n a low′ (low′ + apart′) (probes + 1)
+halfway-turn {at} {n} {a} {low} {apart} {probes} {low′} {apart′} s far t = go (leb (at (low + apart / 2)) a) refl (t .new-low) (t .new-apart)
   where
     go : (b : Bool) → leb (at (low + apart / 2)) a ≡ b → low′ ≡ low + cond b (apart / 2) 0 → apart′ ≡ apart / 2 + cond b (apart % 2) 0
         → Halfway at n a low′ (low′ + apart′) (probes + 1)

@@ -1,7 +1,7 @@
 -- What a run lookup's answer is, case by case: 11 where there are no runs or more than the slices hold, else the hop where halving ends and
 -- its probes; and the same of the number that the C host gets. `RunsHalved` is what code that halves run bytes keeps true.
 -- Assumes nothing.
-use mathlib.Core.Path.{_≡_, refl, ap, _∙_}
+use mathlib.Core.Path.{_≡_, refl, _∙_}
 use mathlib.Core.Bool.{Bool, true, false, cond}
 use mathlib.Core.List.{List}
 use Prim.Native.Nat.{ℕ, _+_, _*_, _/_, _%_, _^_, _≤_, _<_, min, zero-le}
@@ -91,16 +91,16 @@ six-parts true x = refl
 six-parts false x = refl
 
 module _ {bytes : List ℕ} {a from apart : ℕ} (s : RunsHalved bytes a from apart) where
-  pub runs-turn : {start up odd : ℕ} → 1 < apart → start ≡ fourFrom bytes (from + apart / 2 * 6)
-      → up ≡ cond (leb start a) (apart / 2 * 6) 0 → odd ≡ cond (leb start a) (apart % 2) 0 → RunsHalved bytes a (from + up) (apart / 2 + odd)
-  runs-turn {start} far four u o =
+  pub runs-turn : {start up odd : ℕ} → 1 < apart → start ≡ fourFrom bytes (from + apart / 2 * 6) → up ≡ cond (leb start a) (apart / 2 * 6) 0
+      → odd ≡ cond (leb start a) (apart % 2) 0 → odd ≤ apart % 2 → RunsHalved bytes a (from + up) (apart / 2 + odd)
+  runs-turn {start} far four u o small =
       let mid = s .low + apart / 2 in
       let same : start ≡ startAt bytes mid = four ∙ start-here bytes mid _ (omega (arith, s .begins)) in
       record {
         low = s .low + cond (leb (startAt bytes mid) a) (apart / 2) 0;
         probes = s .probes + 1;
         begins = omega (arith, s .begins, rw same at u, six-parts (leb (startAt bytes mid) a) (apart / 2));
-        halfway = halfway-turn (s .halfway) far refl (ap (λ x. apart / 2 + x) (rw same at o));
+        halfway = halfway-turn (s .halfway) far (record { new-low = refl; new-apart = rw (← same, o); closer = omega arith });
       }
 
   pub runs-end : apart ≤ 1 → hostNumber bytes ≡ 0 → getD bytes (from + 4) 0 * 256 + getD bytes (from + 5) 0 ≡ hostAnswer bytes a

@@ -5,7 +5,6 @@ use Prim.Native.Nat.{_+_}
 use native.Mathlib.Nat.{zero-add, add-assoc}
 use native.Mathlib.Omega.{arith}
 use lib.ListN.{getD}
-use borrow.Author.Needs.{needs}
 use Rattle.ground.proofs.Halving.{Halfway, halfway-start, halfway-turn, halfway-end, halfway-probes}
 use Rattle.runs.proofs.Answers.{no-runs, beyond-slices, runs-accepted, refused, found}
 use Rattle.runs.proofs.run_lookup.Statement.{statement}
@@ -40,7 +39,7 @@ probe-requires c κs = (omega arith, omega arith)
 
 probe-requires-2 : tie.Need-probe-requires-2 Inv-loop μ-loop Inv-loop2 μ-loop2
 probe-requires-2 c κs =
-    let once = halfway-turn (c .before .before .before .loop .inv) (omega arith) (c .probe .ensures .0) (c .probe .ensures .1) in
+    let once = halfway-turn (c .before .before .before .loop .inv) (omega arith) (c .probe .ensures) in
     (omega arith, omega arith)
 
 add-probes : tie.Need-add-probes Inv-loop μ-loop Inv-loop2 μ-loop2
@@ -51,8 +50,8 @@ loop-less c = omega arith
 
 loop-again : tie.Need-loop-again Inv-loop μ-loop Inv-loop2 μ-loop2
 loop-again c =
-    let once = halfway-turn (c .before .before .before .before .loop .inv) (omega arith) (c .before .probe .ensures .0) (c .before .probe .ensures .1) in
-    rw add-assoc at (halfway-turn once (omega arith) (c .probe2 .ensures .0) (c .probe2 .ensures .1))
+    let once = halfway-turn (c .before .before .before .before .loop .inv) (omega arith) (c .before .probe .ensures) in
+    rw add-assoc at (halfway-turn once (omega arith) (c .probe2 .ensures))
 
 loop2-holds : tie.Need-loop2-holds Inv-loop μ-loop Inv-loop2 μ-loop2
 loop2-holds c = c .before .before .loop .inv
@@ -67,7 +66,7 @@ loop2-less : tie.Need-loop2-less Inv-loop μ-loop Inv-loop2 μ-loop2
 loop2-less c = omega arith
 
 loop2-again : tie.Need-loop2-again Inv-loop μ-loop Inv-loop2 μ-loop2
-loop2-again c = halfway-turn (c .before .before .before .loop2 .inv) (omega arith) (c .probe3 .ensures .0) (c .probe3 .ensures .1)
+loop2-again c = halfway-turn (c .before .before .before .loop2 .inv) (omega arith) (c .probe3 .ensures)
 
 mul-t9 : tie.Need-mul-t9 Inv-loop μ-loop Inv-loop2 μ-loop2
 mul-t9 c = omega arith

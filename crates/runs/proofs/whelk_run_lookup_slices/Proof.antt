@@ -43,6 +43,9 @@ add-result c = omega (arith, probes-fit (c .before .before .before .run-lookup .
 enum-told : tie.Need-enum-told
 enum-told c = search needs
 
+cast-result-2 : tie.Need-cast-result-2
+cast-result-2 c = search needs
+
 returns : tie.Need-returns
 returns c = one-number (c .before .before .before .run-lookup .ensures) (c .before .hop .given .1)
 
@@ -51,4 +54,4 @@ returns-2 c = one-refusal (c .before .before .run-lookup .ensures) (c .enum-told
 
 pub whelk-run-lookup-slices-spec : {M : Type 1} → statement M
 whelk-run-lookup-slices-spec =
-    tie.close (tie.spec run-lookup-requires enum-known-hop mul-result cast-result add-result enum-told returns returns-2)
+    tie.close (tie.spec run-lookup-requires enum-known-hop mul-result cast-result add-result enum-told cast-result-2 returns returns-2)
