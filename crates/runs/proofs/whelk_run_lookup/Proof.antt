@@ -18,7 +18,7 @@ returns : tie.Need-returns Inv-loop μ-loop
 returns c = host-refused _ _ (no-bytes _ (omega arith))
 
 returns-2 : tie.Need-returns-2 Inv-loop μ-loop
-returns-2 c = host-refused _ _ (no-sixes _ (c .if2 .taken))
+returns-2 c = host-refused _ _ (no-sixes _ (λ e. c .if2 .taken (omega arith)))
 
 loop-holds : tie.Need-loop-holds Inv-loop μ-loop
 loop-holds c = runs-start _ _ (omega arith)
