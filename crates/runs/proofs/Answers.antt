@@ -38,7 +38,8 @@ module _ (n : ℕ) (starts hops : List ℕ) where
     refused e = record { number = rw e; hop = rw e; probes = rw e }
 
     pub found : {low probes : ℕ} → runNumber n starts hops ≡ 0
-        → halving (λ i. getD starts i 0) n a ≡ record { low = low; probes = probes } → RunLookedUp n starts hops a (Hop (getD hops low 0) probes)
+        → halving (λ i. getD starts i 0) n a ≡ record { low = low; probes = probes }
+        → RunLookedUp n starts hops a (Hop (getD hops low 0) probes)
     unfolding runHop runProbes inSlices ifDone
     found e h = record { number = rw e; hop = rw (e, h); probes = rw (e, h) }
 

@@ -49,7 +49,8 @@ loop-less c = omega arith
 
 loop-again : tie.Need-loop-again Inv-loop μ-loop
 loop-again c =
-    runs-turn (c .before .before .before .before .loop .inv) (c .before .before .before .loop-test .taken) (c .before .before .start-from .ensures)
+    runs-turn (c .before .before .before .before .loop .inv) (c .before .before .before .loop-test .taken)
+    (c .before .before .start-from .ensures)
     (c .before .if-low .ensures .0) (c .if-low2 .ensures .0) (c .if-low2 .ensures .1)
 
 hop-from-requires : tie.Need-hop-from-requires Inv-loop μ-loop
