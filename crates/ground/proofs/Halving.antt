@@ -3,14 +3,15 @@
 -- the start after that one is above the address. `Halfway` is what code that halves keeps true from turn to turn.
 -- Assumes nothing.
 use mathlib.Core.Path.{_≡_, refl, sym, ap, _∙_}
-use mathlib.Core.Bool.{Bool, true, false}
-use Prim.Native.Nat.{ℕ, zero, suc, _+_, _-_, _/_, _^_, _≤_, _<_, zero-le}
+use mathlib.Core.Bool.{Bool, true, false, cond}
+use Prim.Native.Nat.{ℕ, zero, suc, _+_, _-_, _/_, _%_, _^_, _≤_, _<_, zero-le}
 use native.Mathlib.Nat.{le-refl, zero-add, add-zero, add-suc, suc-add}
 use native.Mathlib.Numerals.{add-one}
 use native.Mathlib.Omega.{arith}
 use lib.Dec.{leb}
 use borrow.Author.Tests.{leb-true, leb-false, le-leb, lt-leb}
 use Rattle.ground.specs.Halving.{probed, halves, halving}
+use Rattle.ground.specs.Turn.{Turned}
 
 -- how the loop goes from low and high on: it ends at the place `found` after `probes` more probes
 pub data Ends (at : ℕ → ℕ) (a : ℕ) : ℕ → ℕ → ℕ → ℕ → Type 0 where
@@ -165,3 +166,16 @@ module _ {at : ℕ → ℕ} {n a low high probes : ℕ} (s : Halfway at n a low 
       within = omega arith;
       goes-on = λ r. s .goes-on (down far (rw half at l) (rw half at r)) ∙ simp (add-one, suc-add, add-suc);
     }
+
+pub halfway-turn : {at : ℕ → ℕ} {n a low apart probes low′ apart′ : ℕ} → Halfway at n a low (low + apart) probes → 1 < apart
+    → Turned at a low apart low′ apart′ → Halfway at n a low′ (low′ + apart′) (probes + 1)
+halfway-turn {at} {n} {a} {low} {apart} {probes} {low′} {apart′} s far t = go (leb (at (low + apart / 2)) a) refl (t .new-low) (t .new-apart)
+  where
+    go : (b : Bool) → leb (at (low + apart / 2)) a ≡ b → low′ ≡ low + cond b (apart / 2) 0 → apart′ ≡ apart / 2 + cond b (apart % 2) 0
+        → Halfway at n a low′ (low′ + apart′) (probes + 1)
+    go true e l k =
+        let same : low′ + apart′ ≡ low + apart = omega arith in
+        rw (same, l) (halfway-up s (low + apart / 2) (omega arith) (omega arith) (leb-true (at (low + apart / 2)) a e))
+    go false e l k =
+        let same : low′ + apart′ ≡ low + apart / 2 = omega arith in
+        rw (same, l, add-zero) (halfway-down s (low + apart / 2) (omega arith) (omega arith) (leb-false (at (low + apart / 2)) a e))

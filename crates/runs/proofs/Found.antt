@@ -2,17 +2,17 @@
 -- Assumes nothing.
 use mathlib.Core.Path.{_≡_, refl}
 use mathlib.Core.List.{List, [], _∷_}
-use Prim.Native.Nat.{ℕ, zero, suc, _+_, _*_, _/_, _%_, _≤_, _<_}
+use Prim.Native.Nat.{ℕ, zero, suc, _+_, _*_, _/_, _≤_, _<_}
 use native.Mathlib.Nat.{zero-add}
 use native.Mathlib.Omega.{arith}
 use lib.ListN.{length, getD}
-use borrow.Author.Tests.{eq-eqb, ne-eqb}
-use Rattle.ground.specs.Numbers.{firstFault, ifDone}
+use Rattle.ground.specs.Numbers.{ifDone}
 use Rattle.ground.proofs.Halving.{low-below, low-at-most, next-above, halving-agrees}
 use Rattle.cidr.specs.Prefix.{addresses}
 use Rattle.runs.specs.Table.{RunTable}
 use Rattle.runs.specs.Bytes.{runBytes, startAt, hopAt}
-use Rattle.runs.specs.Lookup.{inSlices, inBytes, hostChecks, hostNumber, hostHop, hostAnswer}
+use Rattle.runs.specs.Lookup.{inSlices, inBytes, hostNumber, hostHop, hostAnswer}
+use Rattle.runs.proofs.Answers.{sixes-accepted}
 
 -- run i holds the address
 pub record RunHolds (starts : List ℕ) (a i : ℕ) : Type 0 where
@@ -83,10 +83,9 @@ module _ (starts hops : List ℕ) (paired : length hops ≡ length starts) where
       (λ i l. start-at starts hops i l (omega arith)))
 
   pub bytes-accepted : 0 < length starts → hostNumber (runBytes starts hops) ≡ 0
-  unfolding hostNumber hostChecks firstFault
   bytes-accepted some =
       let six : length (runBytes starts hops) ≡ length starts * 6 = run-bytes-length starts hops paired in
-      rw (ne-eqb (length (runBytes starts hops)) 0 (omega arith), eq-eqb (length (runBytes starts hops) % 6) 0 (omega arith))
+      sixes-accepted (runBytes starts hops) (omega arith) (omega arith)
 
 module _ {f : ℕ → ℕ} {starts hops : List ℕ} (t : RunTable f starts hops) (a : ℕ) where
   pub host-answers : a < addresses → hostAnswer (runBytes starts hops) a ≡ f a

@@ -1,0 +1,12 @@
+/* What bench/in_c has: each function does the work of the one of whelkhollow.h with the same name after its first part. */
+#ifndef IN_C_H
+#define IN_C_H
+
+#include <stddef.h>
+#include <stdint.h>
+
+uint32_t c_run_lookup(const uint8_t *bytes, size_t length, uint32_t address);
+uint64_t c_run_lookup_slices(size_t n, const uint32_t *starts, size_t starts_length, const uint16_t *hops, size_t hops_length,
+                             uint32_t address);
+
+#endif

@@ -1,0 +1,61 @@
+/* What the benches share: numbers from a fixed seed, and a row that compares one piece of work of ours with the same in C. */
+#ifndef MEASURE_H
+#define MEASURE_H
+
+#include <stdint.h>
+#include <stdio.h>
+#include <stdlib.h>
+#include <time.h>
+
+#define ROUNDS 15
+
+static uint64_t seed = 20260715;
+
+static uint32_t any(void)
+{
+    seed ^= seed << 13;
+    seed ^= seed >> 7;
+    seed ^= seed << 17;
+    return (uint32_t)(seed >> 32);
+}
+
+static double seconds(void)
+{
+    struct timespec t;
+    clock_gettime(CLOCK_MONOTONIC, &t);
+    return (double)t.tv_sec + 1e-9 * (double)t.tv_nsec;
+}
+
+static int by_size(const void *a, const void *b)
+{
+    double x = *(const double *)a, y = *(const double *)b;
+    return (x > y) - (x < y);
+}
+
+/* Work: `times` pieces, and a sum of what came out, by which the two are held to the same answers. */
+typedef uint64_t work(void);
+
+/* Round by round, ours and then C's; the row has the ratio of their median times, and each one's time for a piece. */
+static void row(const char *what, unsigned long size, const char *inputs, work *ours, work *in_c, unsigned long times)
+{
+    double a[ROUNDS], b[ROUNDS];
+    int i;
+    if (ours() != in_c()) {
+        printf("%s, %lu, %s: the answers differ\n", what, size, inputs);
+        exit(1);
+    }
+    for (i = 0; i < ROUNDS; i++) {
+        double t0 = seconds(), t1;
+        ours();
+        t1 = seconds();
+        in_c();
+        a[i] = t1 - t0;
+        b[i] = seconds() - t1;
+    }
+    qsort(a, ROUNDS, sizeof a[0], by_size);
+    qsort(b, ROUNDS, sizeof b[0], by_size);
+    printf("%-22s %9lu  %-8s %6.2f %10.1f ns %10.1f ns\n", what, size, inputs, a[ROUNDS / 2] / b[ROUNDS / 2],
+           1e9 * a[ROUNDS / 2] / (double)times, 1e9 * b[ROUNDS / 2] / (double)times);
+}
+
+#endif
