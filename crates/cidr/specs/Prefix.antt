@@ -40,6 +40,6 @@ isPrefix key =
 unfoldable pub holds : ℕ → ℕ → Bool
 holds key a = eqb (a - hostBits (lengthOf key) a) (network key)
 
--- a prefix holds another one: it is no longer, and it holds the other's network (and so every address of the other)
+-- a prefix holds another one: it isn't longer than the other, and it holds the other's network
 unfoldable pub covers : ℕ → ℕ → Bool
 covers key other = leb (lengthOf key) (lengthOf other) && holds key (network other)

@@ -1,6 +1,6 @@
 -- "Both check the whole pair, in the order above, before they write anything. 13 is given exactly when the edited list exceeds its room or
 -- its run table exceeds the runs' room." "15: an edit's length is over 32, host bits are set, or an announced hop is 0."
--- An edit names its prefix by a network and a length.
+-- An edit names its prefix by a network, a u32, and a length.
 -- Assumes nothing.
 use mathlib.Core.Bool.{Bool, not, _||_}
 use mathlib.Core.List.{List, [], _∷_}

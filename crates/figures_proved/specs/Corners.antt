@@ -164,7 +164,7 @@ corners =
     -- the counts of the program's five rows, with a report long enough and one short; a lent tally is set, and stays on 12
     ∷ figure (seven (importCounts fiveRows (0 ∷ []) (0 ∷ []) (9 ∷ 9 ∷ 9 ∷ 9 ∷ 9 ∷ []))) (5 ∷ 1 ∷ 1 ∷ 1 ∷ 1 ∷ 1 ∷ 0 ∷ [])
     ∷ figure (seven (importCounts fiveRows (0 ∷ []) (0 ∷ []) (9 ∷ []))) (0 ∷ 0 ∷ 0 ∷ 0 ∷ 0 ∷ 0 ∷ 0 ∷ [])
-    ∷ figure (seven (importTally fiveRows [] [] (9 ∷ 9 ∷ 9 ∷ 9 ∷ 9 ∷ []) noCounts)) (5 ∷ 0 ∷ 1 ∷ 1 ∷ 1 ∷ 0 ∷ 2 ∷ [])
+    ∷ figure (seven (importTally fiveRows [] [] (9 ∷ 9 ∷ 9 ∷ 9 ∷ 9 ∷ []) (countsOf (1 ∷ 1 ∷ [])))) (5 ∷ 0 ∷ 1 ∷ 1 ∷ 1 ∷ 0 ∷ 2 ∷ [])
     ∷ one (importTally fiveRows [] [] (9 ∷ []) (countsOf (7 ∷ [])) .rows) 1
     -- the program's count lines for them
     ∷ figure (countLines (countsOf (rowNumbers 1024 fiveRows)))
@@ -176,7 +176,7 @@ corners =
     ∷ figure (rewritten (1 ∷ 2 ∷ []) 1 (7 ∷ 7 ∷ 7 ∷ 7 ∷ [])) (1 ∷ 2 ∷ 7 ∷ 7 ∷ [])
     ∷ figure (insertedAt 2 1 5 (1 ∷ 2 ∷ 9 ∷ 9 ∷ []) ++ insertedAt 2 1 5 (1 ∷ 2 ∷ [])) (1 ∷ 5 ∷ 2 ∷ 9 ∷ 1 ∷ 2 ∷ [])
     ∷ figure (removedAt 3 0 (1 ∷ 2 ∷ 3 ∷ 9 ∷ []) ++ removedAt 1 1 (1 ∷ [])) (2 ∷ 3 ∷ 0 ∷ 9 ∷ 1 ∷ [])
-    -- a split's checks in their order: 11, 17, 18, 13; k = n leaves one row
+    -- a split's refusals 11, 17, 18 and 13, each alone but for 11 with 17; k = n is done
     ∷ figure (splitOf 0 1 (0 ∷ []) (0 ∷ []) ∷ splitOf 0 1 (0 ∷ []) (4 ∷ []) ∷ splitOf 2 1 (0 ∷ []) (4 ∷ []) ∷ []) (11 ∷ 17 ∷ 17 ∷ [])
     ∷ figure (splitOf 1 1 (prefix 10 0 0 0 8 ∷ []) (4 ∷ []) ∷ splitNumber 1 1 (0 ∷ []) (4 ∷ []) [] (0 ∷ []) ∷ []) (18 ∷ 13 ∷ [])
     ∷ one (splitOf 1 1 (0 ∷ []) (4 ∷ [])) 0
@@ -188,7 +188,7 @@ corners =
     ∷ figure (writeBuffer 1 (0 ∷ []) (5 ∷ []) (bytes "____________") ++ writeBuffer 1 (0 ∷ []) (5 ∷ []) (bytes "_____________"))
     (bytes "0.0.0.0/0 5\n0.0.0.0/0 5\n_")
     ∷ one (writeNumber 1 (0 ∷ []) (5 ∷ []) (bytes "___________")) 13
-    -- widths: none listed above 16 is 0, /17 is 1, /32 is 16; a /16 of the segment and a /8 around it give 0
+    -- widths: a /8 and a /10 around a segment give 0, a /17 in it 1, a /32 in it 16
     ∷ figure (width 2560 nested ∷ width 2624 (announced (prefix 10 64 128 0 17) 3 nested) ∷ []) (0 ∷ 1 ∷ [])
     ∷ one (width 65535 (announced (prefix 255 255 255 255 32) 3 nested)) 16
     ∷ figure (wordsOf 2624 (announced (prefix 10 64 128 0 17) 3 nested)) (49152 ∷ [])

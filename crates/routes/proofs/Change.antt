@@ -249,3 +249,12 @@ module _ (k h : ℕ) where
       go (before l) rec = absurd (early l (List·Memᴰ·cases-cons (found .1)))
       go (same q) rec = ap length (announced-at k h t ts q)
       go (after l) rec = ap length (announced-after k h t ts l) ∙ ap suc (rec (later l (List·Memᴰ·cases-cons (found .1))))
+
+-- announcing a listed route with its own hop leaves the list as it is
+pub announced-same : (k h : ℕ) (rows : List Row) → ascending rows ≡ true → Has (row k h) rows → announced k h rows ≡ rows
+announced-same k h [] a m = absurd (List·Memᴰ·not-nil m)
+announced-same k h (t ∷ ts) a m = go (List·Memᴰ·cases-cons m) (announced-same k h ts (ascending-tail t ts a))
+  where
+    go : (row k h ≡ t) ⊎ Has (row k h) ts → (Has (row k h) ts → announced k h ts ≡ ts) → announced k h (t ∷ ts) ≡ t ∷ ts
+    go (inl q) rec = announced-at k h t ts (ap (λ r. r .key) q) ∙ ap (λ r. r ∷ ts) q
+    go (inr n) rec = announced-after k h t ts (first-below t ts a (row k h) n) ∙ ap (λ l. t ∷ l) (rec n)

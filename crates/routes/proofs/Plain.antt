@@ -108,7 +108,7 @@ module _ (rows : List Row) (a : ℕ) where
   pub never-both-cases : NoMatch rows a → (r : Row) → Longest rows a r → ⊥
   never-both-cases n r l = never-both (l .matches) (n r (l .listed))
 
-  -- "0 says that nothing matches"
+  -- where nothing matches the answer is 0
   pub plain-no-match : NoMatch rows a → plain rows a ≡ 0
   plain-no-match n = ⊎-elim (λ w. w .1) (λ w. absurd (never-both-cases n (w .0) (w .1))) plain-cases
 
@@ -122,3 +122,7 @@ module _ (rows : List Row) (a : ℕ) where
   pub plain-longest : ascending rows ≡ true → (r : Row) → Longest rows a r → plain rows a ≡ r .hop
   plain-longest asc r l =
       ⊎-elim (λ w. absurd (never-both-cases (w .0) r l)) (λ w. w .2 ∙ ap (λ x. x .hop) (one-longest asc (w .0) r (w .1) l)) plain-cases
+
+  -- "As an answer, 0 says that nothing matches": no listed hop is 0
+  pub plain-zero : ((r : Row) → Has r rows → r .hop ≡ 0 → ⊥) → plain rows a ≡ 0 → NoMatch rows a
+  plain-zero given z = ⊎-elim (λ w. w .0) (λ w. absurd (given (w .0) (w .1 .listed) (sym (w .2) ∙ z))) plain-cases

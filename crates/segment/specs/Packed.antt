@@ -16,7 +16,8 @@ unfoldable pub width : ℕ → List Row → ℕ
 width q [] = 0
 width q (r ∷ rs) = max (cond (eqb (network (r .key) / 65536) q) (lengthOf (r .key) - 16) 0) (width q rs)
 
--- "The segment has 2^w blocks of equal size." A block's hop is the plain answer at its first address, and so at all (`block-hop`).
+-- "The segment has 2^w blocks of equal size." A block's hop is the plain answer at its first
+-- address; no listed prefix begins or ends inside a block, so it is that of all its addresses.
 unfoldable pub blockHop : ℕ → List Row → ℕ → ℕ → ℕ
 blockHop q rows w t = plain rows (q * 65536 + t * 2 ^ (16 - w))
 
