@@ -1,4 +1,5 @@
-/* Whelkhollow for C: lookup in a run table. Link libruns.a, which `rt staticlib runs` proves and builds for x86-64. */
+/* Whelkhollow for C. Link libhost.a, which `rt staticlib host` proves and builds for x86-64 (libruns.a has the two run lookups alone).
+   Every pointer is to memory of the length that follows it, and isn't null even where the length is 0. */
 #ifndef WHELKHOLLOW_H
 #define WHELKHOLLOW_H
 
@@ -24,13 +25,39 @@ enum whelk_number {
 };
 
 /* Run lookup over run bytes: 4 bytes of start and 2 of hop for each run, high byte first. Returns 65,536 x number + hop, where the number
-   is 0, or 11 (and the hop 0) for no bytes or a length that 6 doesn't divide. `bytes` isn't null, and is only read. */
+   is 0, or 11 (and the hop 0) for no bytes or a length that 6 doesn't divide. */
 uint32_t whelk_run_lookup(const uint8_t *bytes, size_t length, uint32_t address);
 
 /* Run lookup over the first `n` runs of lent starts and hops. Returns 4,294,967,296 x probes + 65,536 x number + hop, where the number is 0,
-   or 11 (and the others 0) for no runs or a count beyond one of the slices. Neither pointer is null, and both are only read. */
+   or 11 (and the others 0) for no runs or a count beyond one of the slices. */
 uint64_t whelk_run_lookup_slices(size_t n, const uint32_t *starts, size_t starts_length, const uint16_t *hops, size_t hops_length,
                                  uint32_t address);
+
+/* A list is a count with keys and hops: key = network x 64 + length, keys strictly ascend, hops are 1 to 65,535. */
+#define WHELK_TOP_ROWS 1048576
+
+/* What an import returns: its number, 0 or 12, and the seven counts, all 0 on 12. rows is always taken + the five others. */
+struct whelk_counts {
+    size_t number;
+    size_t rows;
+    size_t taken;
+    size_t shape;
+    size_t range;
+    size_t hostbits;
+    size_t repeat;
+    size_t noroom;
+};
+
+/* Imports a text feed into lent keys and hops, from an empty list on, and writes each row's number into the report, a byte a row: 0 taken,
+   1 shape, 2 range, 3 host bits, 4 repeat, 5 no room. Room is the lesser of the two lengths, at most WHELK_TOP_ROWS. A report shorter than
+   the number of rows is 12, and then nothing is written. Slots past the taken count and report bytes past the rows stay as they were. */
+struct whelk_counts whelk_import(const uint8_t *feed, size_t feed_length, uint64_t *keys, size_t keys_length, uint16_t *hops,
+                                 size_t hops_length, uint8_t *report, size_t report_length);
+
+/* The plain answer of a list at an address, the hop of the longest listed prefix that holds it or 0: 65,536 x number + hop, where the number
+   is 0, or 11 (and the hop 0) for an ill-formed list. */
+uint32_t whelk_plain_lookup(size_t count, const uint64_t *keys, size_t keys_length, const uint16_t *hops, size_t hops_length,
+                            uint32_t address);
 
 #ifdef __cplusplus
 }

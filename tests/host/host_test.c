@@ -1,0 +1,95 @@
+/* The C interface against what document 01 says, worked out by hand: import, plain lookup, run lookup on slices and on bytes. */
+#include <stdio.h>
+#include <string.h>
+
+#include "whelkhollow.h"
+
+static int passed, failed;
+
+static void check(const char *what, int ok)
+{
+    if (ok)
+        passed++;
+    else {
+        failed++;
+        printf("failed: %s\n", what);
+    }
+}
+
+static uint64_t key(uint32_t a, uint32_t b, uint32_t c, uint32_t d, uint32_t len)
+{
+    return (((uint64_t)a << 24 | b << 16 | c << 8 | d) << 6) | len;
+}
+
+static const char five[] = "10.0.0.0/8 7\n10.0.0.1/8 7\n10.0.0.0/8 9\n\n10.1.0.0/16 70000\n";
+
+static void imports(void)
+{
+    uint64_t keys[4] = {77, 77, 77, 77};
+    uint16_t hops[4] = {88, 88, 88, 88};
+    uint8_t report[6] = {99, 99, 99, 99, 99, 99};
+    struct whelk_counts c =
+        whelk_import((const uint8_t *)five, strlen(five), keys, 4, hops, 4, report, 6);
+    check("five rows: counts", c.number == 0 && c.rows == 5 && c.taken == 1 && c.shape == 1 && c.range == 1 && c.hostbits == 1 &&
+                                   c.repeat == 1 && c.noroom == 0);
+    const uint8_t numbers[6] = {0, 3, 4, 1, 2, 99};
+    check("five rows: report", memcmp(report, numbers, 6) == 0);
+    check("five rows: list", keys[0] == key(10, 0, 0, 0, 8) && hops[0] == 7 && keys[1] == 77 && hops[1] == 88);
+    c = whelk_import((const uint8_t *)five, strlen(five), keys, 4, hops, 4, report, 4);
+    check("a short report is 12, and nothing is written",
+          c.number == WHELK_REPORT_SHORT && c.rows == 0 && c.taken == 0 && memcmp(report, numbers, 6) == 0 && keys[0] == key(10, 0, 0, 0, 8));
+    c = whelk_import((const uint8_t *)five, 0, keys, 4, hops, 4, report, 0);
+    check("an empty feed", c.number == 0 && c.rows == 0 && c.taken == 0);
+    c = whelk_import((const uint8_t *)five, strlen(five), keys, 0, hops, 4, report, 6);
+    check("no room", c.number == 0 && c.rows == 5 && c.taken == 0 && c.noroom == 2 && c.repeat == 0 && report[0] == 5 && report[2] == 5);
+}
+
+/* A sorted feed of many rows, and lookups in the list that it leaves. */
+static void many(void)
+{
+    enum { rows = 3000 };
+    static char feed[rows * 24];
+    static uint64_t keys[rows];
+    static uint16_t hops[rows];
+    static uint8_t report[rows];
+    size_t n = 0;
+    for (int i = 0; i < rows; i++) n += (size_t)sprintf(feed + n, "%d.%d.%d.0/24 %d\n", 1 + i / 256, i % 256, i % 7, 1 + i % 65535);
+    struct whelk_counts c = whelk_import((const uint8_t *)feed, n, keys, rows, hops, rows, report, rows);
+    check("many rows are all taken", c.number == 0 && c.rows == rows && c.taken == rows);
+    int ok = 1;
+    for (int i = 0; i < rows; i += 37) {
+        uint32_t a = (uint32_t)(1 + i / 256) << 24 | (uint32_t)(i % 256) << 16 | (uint32_t)(i % 7) << 8;
+        ok &= whelk_plain_lookup(c.taken, keys, rows, hops, rows, a + 255) == (uint32_t)(1 + i % 65535);
+        ok &= whelk_plain_lookup(c.taken, keys, rows, hops, rows, a + 256) == 0;
+    }
+    check("each is found at its last address and not after it", ok);
+}
+
+static void lookups(void)
+{
+    const uint64_t keys[3] = {key(10, 0, 0, 0, 8), key(10, 64, 0, 0, 10), key(255, 255, 255, 255, 32)};
+    const uint16_t hops[3] = {1, 2, 5};
+    check("the longest match", whelk_plain_lookup(3, keys, 3, hops, 3, 0x0a400001) == 2);
+    check("the shorter one outside it", whelk_plain_lookup(3, keys, 3, hops, 3, 0x0a800000) == 1);
+    check("nothing matches", whelk_plain_lookup(3, keys, 3, hops, 3, 0) == 0);
+    check("the last address", whelk_plain_lookup(3, keys, 3, hops, 3, 0xffffffff) == 5);
+    check("a count beyond one slice is 11", whelk_plain_lookup(3, keys, 3, hops, 2, 0) == 11 * 65536);
+    const uint16_t zero[3] = {1, 0, 5};
+    check("hop 0 is 11", whelk_plain_lookup(3, keys, 3, zero, 3, 0) == 11 * 65536);
+    const uint32_t starts[3] = {0, 0x0a000000, 0x0b000000};
+    const uint16_t runs[3] = {0, 7, 0};
+    check("run lookup: hop 7 after two probes", whelk_run_lookup_slices(3, starts, 3, runs, 3, 0x0a000000) == ((uint64_t)2 << 32) + 7);
+    check("run lookup: no runs is 11", whelk_run_lookup_slices(0, starts, 3, runs, 3, 0) == 11 * 65536);
+    const uint8_t bytes[12] = {0, 0, 0, 0, 0, 0, 10, 0, 0, 0, 0, 7};
+    check("run bytes", whelk_run_lookup(bytes, 12, 0x0affffff) == 7 && whelk_run_lookup(bytes, 12, 0x09ffffff) == 0);
+    check("run bytes: a length that 6 doesn't divide is 11", whelk_run_lookup(bytes, 11, 0) == 11 * 65536);
+}
+
+int main(void)
+{
+    imports();
+    many();
+    lookups();
+    printf("%d passed, %d failed\n", passed, failed);
+    return failed != 0;
+}
