@@ -1,0 +1,77 @@
+#!/usr/bin/env python3
+"""Writes what the program `figures` has to write: document 01's figures by hand, and the rest by the reference."""
+import pathlib
+import sys
+
+sys.path.insert(0, str(pathlib.Path(__file__).resolve().parent.parent))
+from reference import counts_of, dotted, import_feed
+
+PLAIN_ANSWERS = """\
+# Plain answers of list A
+200.27.112.170 2
+200.28.0.0 0
+200.23.255.255 0
+200.25.255.255 1
+0.0.0.0 0
+255.255.255.255 0
+"""
+
+# Each import: its name, its feed, and the lengths of keys, hops and report.
+IMPORTS = [
+    ("the five rows of document 01", b"10.0.0.0/8 7\n10.0.0.1/8 7\n10.0.0.0/8 9\n\n10.1.0.0/16 70000\n", 3, 3, 6),
+    ("0 bytes", b"", 2, 2, 2),
+    ("only LFs", b"\n\n\n", 2, 2, 4),
+    ("no LF at all", b"1.0.0.0/8 1", 2, 2, 2),
+    ("no LF after the last row", b"1.0.0.0/8 1\n2.0.0.0/8 2", 3, 3, 3),
+    ("an empty row first", b"\n1.0.0.0/8 1\n", 2, 2, 3),
+    ("keys in order", b"3.0.0.0/8 3\n1.0.0.0/16 1\n2.0.0.0/8 2\n1.0.0.0/8 4\n", 5, 5, 4),
+    ("NUL", b"\x00\n1.0.0.0/8 1\x00\n1.0.0.0\x00/8 1\n", 2, 2, 4),
+    ("byte 255", b"\xff\n1.0.0.0/8 1\xff\n\xff1.0.0.0/8 1\n", 2, 2, 4),
+    ("CR", b"1.0.0.0/8 1\r\n\r\n2.0.0.0/8 2\n", 2, 2, 4),
+    ("tab", b"1.0.0.0/8\t1\n1.0.0.0/8 1\t\n\t1.0.0.0/8 1\n", 2, 2, 4),
+    ("spaces", b"1.0.0.0/8  1\n 1.0.0.0/8 1\n1.0.0.0/8 1 \n1.0.0.0 /8 1\n1.0.0.0/81\n", 2, 2, 6),
+    ("parts missing", b"1.0.0.0/8 \n1.0.0.0/ 1\n1.0.0/8 1\n1.0.0./8 1\n.0.0.0/8 1\n1.0.0.0.0/8 1\n1.0.0.0 1\n", 2, 2, 8),
+    ("a very long row", 400 * b"1", 2, 2, 2),
+    ("a long row before a good one", b"1.0.0.0/8 " + 64 * b"1" + b"\n2.0.0.0/8 2\n", 2, 2, 3),
+    ("octets", b"255.255.255.255/32 1\n256.0.0.0/8 1\n999.0.0.0/8 1\n1000.0.0.0/8 1\n0.0.0.256/32 1\n0.0.0.1000/32 1\n", 2, 2, 7),
+    ("lengths", b"0.0.0.0/0 1\n0.0.0.0/32 2\n0.0.0.0/33 1\n0.0.0.0/99 1\n0.0.0.0/100 1\n0.0.0.0/032 1\n", 3, 3, 7),
+    ("hops", b"1.0.0.0/8 65535\n2.0.0.0/8 65536\n3.0.0.0/8 70000\n4.0.0.0/8 100000\n5.0.0.0/8 0\n"
+     b"6.0.0.0/8 00000\n7.0.0.0/8 000001\n", 2, 2, 9),
+    ("leading zeros", b"010.000.00.0/08 00007\n10.0.0.0/8 9\n001.002.003.000/24 01\n", 3, 3, 4),
+    ("host bits", b"10.0.0.1/8 1\n10.0.0.1/31 1\n10.0.0.1/32 1\n128.0.0.0/0 1\n128.0.0.0/1 2\n0.0.0.1/0 1\n", 3, 3, 7),
+    ("shape before range before host bits", b"999.2.3.4/5 6x\n999.2.3.4/5 6\n1.2.3.4/5 6\n1.2.3.4/5 0\n", 2, 2, 5),
+    ("slices of length 0", b"1.0.0.0/8 1\n\n1.0.0.0/8 1\n", 0, 0, 4),
+    ("keys of length 0", b"1.0.0.0/8 1\n", 0, 2, 2),
+    ("hops of length 0", b"1.0.0.0/8 1\n", 2, 0, 2),
+    ("more keys than hops", b"3.0.0.0/8 3\n2.0.0.0/8 2\n1.0.0.0/8 1\n", 4, 2, 4),
+    ("more hops than keys", b"3.0.0.0/8 3\n2.0.0.0/8 2\n1.0.0.0/8 1\n", 2, 4, 4),
+    ("repeats after no room",
+     b"1.0.0.0/8 1\n2.0.0.0/8 2\n2.0.0.0/8 3\n1.0.0.0/8 4\n2.0.0.0/9 5\n\n2.0.0.1/8 6\n", 1, 1, 8),
+    ("a report as long as the rows", b"1.0.0.0/8 1\n\n2.0.0.0/8 2", 3, 3, 3),
+    ("a report one byte short", b"1.0.0.0/8 1\n\n2.0.0.0/8 2", 3, 3, 2),
+    ("a report of length 0", b"\n", 1, 1, 0),
+    ("a report of length 0 for 0 bytes", b"", 1, 1, 0),
+]
+
+
+def line(name, values):
+    print(" ".join([name] + [str(value) for value in values]))
+
+
+def show_import(name, feed, keys, hops, report):
+    """An import into slots that hold 9.9.9.9/32 for a key and 9 for a hop and a report byte."""
+    numbers, routes = import_feed(feed, min(keys, hops))
+    number, counts = 0, counts_of(numbers)
+    if report < len(numbers):
+        number, counts, numbers, routes = 12, [0] * 7, [], []
+    print("# Import:", name)
+    line("number", [number])
+    line("counts", counts)
+    line("report", numbers + [9] * (report - len(numbers)))
+    line("keys", [f"{dotted(network)}/{length}" for network, length, _ in routes] + ["9.9.9.9/32"] * (keys - len(routes)))
+    line("hops", [hop for _, _, hop in routes] + [9] * (hops - len(routes)))
+
+
+print(PLAIN_ANSWERS, end="")
+for case in IMPORTS:
+    show_import(*case)
