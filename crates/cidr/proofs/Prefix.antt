@@ -4,10 +4,10 @@
 use mathlib.Core.Path.{_≡_, sym, ap, _∙_, subst}
 use mathlib.Core.Bool.{true, _&&_}
 use Prim.Native.Nat.{ℕ, _+_, _-_, _%_, _≤_, _<_}
-use native.Mathlib.Nat.{mod-lt, mod-le, mod-add-mod, mod-eq-of-lt, zero-add, add-sub-of-le, add-sub-cancel}
+use native.Mathlib.Nat.{mod-lt, mod-le, mod-add-mod, mod-eq-of-lt, zero-add, add-sub-of-le, add-sub-cancel, lt-of-not-le}
 use native.Mathlib.Omega.{arith}
 use lib.Dec.{leb, ltb, eqb}
-use lib.Pow.{pow-pos}
+use lib.Pow.{pow-pos, mod-pow-add}
 use borrow.Author.Tests.{leb-true, ltb-true, eqb-true, le-leb, lt-ltb, eq-eqb}
 use Rattle.ground.proofs.Truth.{and-left, and-right, and-both}
 use Rattle.cidr.specs.Prefix.{addresses, keyOf, network, lengthOf, size, hostBits, isPrefix, holds, covers}
@@ -100,3 +100,15 @@ unfolding covers
 covers-before key other e long =
     let from : network key ≤ network other = holds-from key (network other) (and-right (leb (lengthOf key) (lengthOf other)) (holds key (network other)) e) in
     omega (arith, key-split key, key-split other)
+
+-- a longer prefix leaves no more host bits
+host-bits-fall : (len len′ a : ℕ) → len′ ≤ len → hostBits len a ≤ hostBits len′ a
+unfolding hostBits size
+host-bits-fall len len′ a h =
+    let e : 32 - len′ ≡ (32 - len′) - (32 - len) + (32 - len) = omega arith in
+    rw e (omega (arith, mod-pow-add a ((32 - len′) - (32 - len)) (32 - len)))
+
+-- of two prefixes that hold an address, the one with the greater key is the longer
+pub longer-later : (k k′ a : ℕ) → k < k′ → holds k a ≡ true → holds k′ a ≡ true → lengthOf k < lengthOf k′
+longer-later k k′ a lt h h′ =
+    lt-of-not-le (λ e. omega (arith, host-bits-fall (lengthOf k) (lengthOf k′) a e, holds-is k a h, holds-is k′ a h′))

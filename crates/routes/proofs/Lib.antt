@@ -4,3 +4,8 @@ pub mod Plain
 pub mod Change
 pub mod PlaceLaws
 pub mod Columns
+mod Rest
+mod Formed
+mod LastMatch
+pub mod Settled
+mod Answer

@@ -4,3 +4,4 @@ pub mod Plain
 pub mod Change
 pub mod Lookup
 pub mod Place
+pub mod Looked

@@ -1,15 +1,16 @@
 -- `cidr::is_prefix` meets its contract: each test is one of the definition's, in its order.
 -- Assumes nothing.
+use native.Mathlib.Omega.{arith}
 use borrow.Author.Needs.{needs}
 use Rattle.cidr.proofs.is_prefix.Statement.{statement}
 use Rattle.cidr.proofs.is_prefix.Tie as tie
 use Rattle.cidr.proofs.Bits.{too-long, outside, aligned}
 
 returns : tie.Need-returns
-returns c = too-long (c .before .args .key) (c .if1 .taken)
+returns c = too-long (c .before .args .key) (omega arith)
 
 returns-2 : tie.Need-returns-2
-returns-2 c = outside (c .before .before .args .key) (c .before .if1 .left) (c .if2 .taken)
+returns-2 c = outside (c .before .before .args .key) (omega arith) (omega arith)
 
 host-bits-requires : tie.Need-host-bits-requires
 host-bits-requires c κs = search needs
@@ -20,7 +21,7 @@ cleared-requires c κs = search needs
 returns-3 : tie.Need-returns-3
 returns-3 c =
     rw (c .cleared .ensures, c .before .host-bits .ensures)
-    (aligned (c .before .before .before .before .args .key) (c .before .before .before .if1 .left) (c .before .before .if2 .left))
+    (aligned (c .before .before .before .before .args .key) (omega arith) (omega arith))
 
 pub is-prefix-spec : {M : Type 1} → statement M
 is-prefix-spec = tie.close (tie.spec returns returns-2 host-bits-requires cleared-requires returns-3)
