@@ -3,3 +3,5 @@ pub mod Build
 pub mod Pair
 pub mod Bytes
 pub mod Lookup
+pub mod Answers
+pub mod Sweep
