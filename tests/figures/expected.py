@@ -4,7 +4,7 @@ import pathlib
 import sys
 
 sys.path.insert(0, str(pathlib.Path(__file__).resolve().parent.parent))
-from reference import counts_of, dotted, import_feed
+from reference import counts_of, dotted, import_feed, runs_of
 
 PLAIN_ANSWERS = """\
 # Plain answers of list A
@@ -53,6 +53,39 @@ IMPORTS = [
     ("a report of length 0 for 0 bytes", b"", 1, 1, 0),
 ]
 
+LIST_A = ["200.24.0.0/14 1", "200.26.0.0/15 2", "200.27.0.0/16 3", "200.27.64.0/18 1", "200.27.112.0/20 2", "200.27.128.0/20 1"]
+LIST_A += ["200.27.240.0/20 2"]
+RUNS_OF_A = """\
+0.0.0.0 0
+200.24.0.0 1
+200.26.0.0 2
+200.27.0.0 3
+200.27.64.0 1
+200.27.112.0 2
+200.27.128.0 1
+200.27.144.0 3
+200.27.240.0 2
+200.28.0.0 0
+""".splitlines()
+A_LESS = [row for row in LIST_A if row != "200.27.64.0/18 1"]
+SIBLINGS = ["10.0.0.0/8 1", "10.0.0.0/16 2", "10.2.0.0/16 2"]
+
+# Each run table: its name, the rows of its list, how many slots are lent, and document 01's count of runs, or None where it gives none.
+BUILDS = [
+    ("list A", LIST_A, 12, 10),
+    ("list A in as many slots as it has runs", LIST_A, 10, 10),
+    ("list A in one slot less", LIST_A, 9, 10),
+    ("A without 200.27.64.0/18", A_LESS, 10, 9),
+    ("A with 200.27.224.0/19 hop 1", LIST_A + ["200.27.224.0/19 1"], 12, 11),
+    ("A with 200.27.224.0/19 hop 3", LIST_A + ["200.27.224.0/19 3"], 12, 10),
+    ("the empty list", [], 2, 1),
+    ("the empty list in no slot", [], 0, 1),
+    ("only 255.255.255.255/32 hop 5", ["255.255.255.255/32 5"], 3, 2),
+    ("0.0.0.0/0 hop 4", ["0.0.0.0/0 4"], 2, None),
+    ("a route between two siblings of its hop, under a parent of another", SIBLINGS + ["10.1.0.0/16 2"], 5, None),
+    ("the same without it", SIBLINGS, 7, None),
+]
+
 
 def line(name, values):
     print(" ".join([name] + [str(value) for value in values]))
@@ -72,6 +105,24 @@ def show_import(name, feed, keys, hops, report):
     line("hops", [hop for _, _, hop in routes] + [9] * (hops - len(routes)))
 
 
+def show_build(name, rows, room, figure):
+    """A build into slots that hold 9.9.9.9 for a start and 9 for a hop."""
+    _, routes = import_feed("".join(row + "\n" for row in rows).encode(), len(rows))
+    runs = [f"{dotted(start)} {hop}" for start, hop in runs_of(routes)]
+    assert len(runs) == figure or figure is None
+    assert runs == RUNS_OF_A or rows != LIST_A
+    number = 0
+    if room < len(runs):
+        number, runs = 13, []
+    print("# Run table:", name)
+    line("number", [number])
+    line("runs", [len(runs)])
+    for slot in runs + ["9.9.9.9 9"] * (room - len(runs)):
+        print(slot)
+
+
 print(PLAIN_ANSWERS, end="")
 for case in IMPORTS:
     show_import(*case)
+for case in BUILDS:
+    show_build(*case)

@@ -2,6 +2,7 @@
 use feed::Counts;
 use feed::Imported;
 use routes::Looked;
+use runs::Built;
 ghost use Prim.Native.Nat.{_≤_};
 
 // What stands in a key's slot that nothing has written: 9.9.9.9/32. In a hop's slot and in the report it is 9.
@@ -289,10 +290,98 @@ fn import_rooms() {
     import(b"a report of length 0 for 0 bytes", b"", 1, 1, 0);
 }
 
+// The number that a build returns, the count of runs, and every slot that it was lent.
+fn built(count: usize, keys: &[u64], hops: &[u16], starts: &mut [u32], rhops: &mut [u16]) {
+    let mut number = 0;
+    let mut n = 0;
+    match runs::build(count, keys, hops, starts, rhops) {
+        Built::Runs(runs) => n = runs,
+        Built::IllFormed => number = 11,
+        Built::NoRoom => number = 13,
+    }
+    print::line(b"number", number);
+    print::line(b"runs", n as u64);
+    print::runs(starts.len(), starts, rhops);
+}
+
+// The run table of a feed's list, built into `room` slots that hold what nothing has written.
+fn build(name: &[u8], feed: &[u8], room: usize)
+    requires { ⌜ room ≤ 16 ⌝ }
+{
+    print::text(b"# Run table: ");
+    print::text(name);
+    print::text(b"\n");
+    let mut keys = [0u64; 8];
+    let mut hops = [0u16; 8];
+    let mut report = [0u8; 8];
+    let Imported::Done(c) = feed::import(feed, &mut keys, &mut hops, &mut report) else {
+        return;
+    };
+    let count = c.taken;
+    let mut starts = [151587081u32; 16];
+    let mut rhops = [9u16; 16];
+    built(count, &keys, &hops, &mut starts[..room], &mut rhops[..room]);
+}
+
+// Document 01's run tables, and corners.
+fn builds() {
+    build(
+        b"list A",
+        b"200.24.0.0/14 1\n200.26.0.0/15 2\n200.27.0.0/16 3\n200.27.64.0/18 1\n200.27.112.0/20 2\n200.27.128.0/20 1\n200.27.240.0/20 2\n",
+        12,
+    );
+    build(
+        b"list A in as many slots as it has runs",
+        b"200.24.0.0/14 1\n200.26.0.0/15 2\n200.27.0.0/16 3\n200.27.64.0/18 1\n200.27.112.0/20 2\n200.27.128.0/20 1\n200.27.240.0/20 2\n",
+        10,
+    );
+    build(
+        b"list A in one slot less",
+        b"200.24.0.0/14 1\n200.26.0.0/15 2\n200.27.0.0/16 3\n200.27.64.0/18 1\n200.27.112.0/20 2\n200.27.128.0/20 1\n200.27.240.0/20 2\n",
+        9,
+    );
+    build(
+        b"A without 200.27.64.0/18",
+        b"200.24.0.0/14 1\n200.26.0.0/15 2\n200.27.0.0/16 3\n200.27.112.0/20 2\n200.27.128.0/20 1\n200.27.240.0/20 2\n",
+        10,
+    );
+    build(
+        b"A with 200.27.224.0/19 hop 1",
+        b"200.24.0.0/14 1\n200.26.0.0/15 2\n200.27.0.0/16 3\n200.27.64.0/18 1\n200.27.112.0/20 2\n\
+          200.27.128.0/20 1\n200.27.224.0/19 1\n200.27.240.0/20 2\n",
+        12,
+    );
+    build(
+        b"A with 200.27.224.0/19 hop 3",
+        b"200.24.0.0/14 1\n200.26.0.0/15 2\n200.27.0.0/16 3\n200.27.64.0/18 1\n200.27.112.0/20 2\n\
+          200.27.128.0/20 1\n200.27.224.0/19 3\n200.27.240.0/20 2\n",
+        12,
+    );
+    build(b"the empty list", b"", 2);
+    build(b"the empty list in no slot", b"", 0);
+    build(
+        b"only 255.255.255.255/32 hop 5",
+        b"255.255.255.255/32 5\n",
+        3,
+    );
+    build(b"0.0.0.0/0 hop 4", b"0.0.0.0/0 4\n", 2);
+    build(
+        b"a route between two siblings of its hop, under a parent of another",
+        b"10.0.0.0/8 1\n10.0.0.0/16 2\n10.1.0.0/16 2\n10.2.0.0/16 2\n",
+        5,
+    );
+    build(
+        b"the same without it",
+        b"10.0.0.0/8 1\n10.0.0.0/16 2\n10.2.0.0/16 2\n",
+        7,
+    );
+}
+
 fn main() {
     plain_answers();
     import_rows();
     import_shapes();
     import_numbers();
     import_rooms();
+    builds();
 }

@@ -46,12 +46,14 @@ pub fn answer(a: u32, hop: u16) {
     text(b"\n");
 }
 
-// A run table, a line a run: as many as both slices have.
-pub fn runs(starts: &[u32], hops: &[u16]) {
+// The first `count` runs of a table, a line a run, as far as both slices have them.
+pub fn runs(count: usize, starts: &[u32], hops: &[u16]) {
     let mut i = 0;
-    while i < starts.len() {
-        if i < hops.len() {
-            answer(starts[i], hops[i]);
+    while i < count {
+        if i < starts.len() {
+            if i < hops.len() {
+                answer(starts[i], hops[i]);
+            }
         }
         i += 1;
     }

@@ -1,15 +1,14 @@
 -- `print::runs` is safe and ends: the measure is the runs that are left. Assumes nothing.
 use borrow.Author.Needs.{needs}
 use Prim.Native.Nat.{_-_}
-use lib.ListN.{length}
 use Rattle.print.proofs.runs.Statement.{statement}
 use Rattle.print.proofs.runs.Tie as tie
 
 abbrev Inv-loop : tie.InvT-loop
-Inv-loop starts hops i₀ i = Unit {0}
+Inv-loop count starts hops i₀ i = Unit {0}
 
 abbrev μ-loop : tie.MeasureT-loop
-μ-loop starts hops i₀ i = length starts - i
+μ-loop count starts hops i₀ i = count - i
 
 loop-holds : tie.Need-loop-holds Inv-loop μ-loop
 loop-holds c = tt
