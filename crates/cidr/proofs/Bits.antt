@@ -2,15 +2,16 @@
 -- Assumes nothing.
 use mathlib.Core.Path.{_≡_, sym, ap, _∙_}
 use mathlib.Core.Bool.{false}
-use Prim.Native.Nat.{ℕ, _-_, _*_, _/_, _%_, _^_, _≤_, _<_}
-use native.Mathlib.Nat.{div-add-mod', div-mul-le-self, mod-eq-of-lt, lt-of-le-of-lt}
+use mathlib.Core.Logic.{⊎-elim}
+use Prim.Native.Nat.{ℕ, _+_, _-_, _*_, _/_, _%_, _^_, _≤_, _<_}
+use native.Mathlib.Nat.{div-add-mod', div-mul-le-self, mod-eq-of-lt, lt-of-le-of-lt, one-mul}
 use native.Mathlib.Omega.{arith}
 use lib.Dec.{eqb}
+use lib.Pow.{pow-lt, shl-exact}
 use borrow.Author.Tests.{eqb-true, eqb-false, eq-eqb, ne-eqb}
 use borrow.Author.Tests.{lt-leb, le-leb, le-ltb, lt-ltb}
 use Rattle.ground.proofs.Truth.{decided}
 use Rattle.cidr.specs.Prefix.{network, lengthOf, size, hostBits, isPrefix, holds}
-use mathlib.Core.Logic.{⊎-elim}
 
 -- a shift there and back loses nothing but the low bits
 pub shifted-back : (x b : ℕ) → x < 2 ^ 64 → (x / 2 ^ b * 2 ^ b) % 2 ^ 64 ≡ x / 2 ^ b * 2 ^ b
@@ -46,3 +47,15 @@ module _ (key : ℕ) where
 pub matched : (key a : ℕ) → eqb (a / 2 ^ (32 - lengthOf key) * 2 ^ (32 - lengthOf key)) (network key) ≡ holds key a
 unfolding holds hostBits size
 matched key a = ap (λ x. eqb x (network key)) (cleared-is a (32 - lengthOf key))
+
+-- one past the last address as the code shifts it
+pub shifted-size : (key : ℕ) → (1 * 2 ^ (32 - lengthOf key)) % 2 ^ 64 ≡ size (lengthOf key)
+unfolding size
+shifted-size key = shl-exact 1 (32 - lengthOf key) 64 (omega arith) (omega arith) ∙ one-mul (2 ^ (32 - lengthOf key))
+
+size-below : (len : ℕ) → size len < 2 ^ 33
+unfolding size
+size-below len = pow-lt {i = 32 - len} {j = 33} (omega arith)
+
+pub end-fits : (key : ℕ) → key < 2 ^ 64 → network key + (1 * 2 ^ (32 - lengthOf key)) % 2 ^ 64 < 2 ^ 64
+end-fits key h = rw shifted-size (omega (arith, size-below (lengthOf key)))

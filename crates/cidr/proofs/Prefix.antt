@@ -3,11 +3,12 @@
 -- Assumes nothing.
 use mathlib.Core.Path.{_≡_, sym, ap, _∙_, subst}
 use mathlib.Core.Bool.{true, _&&_}
-use Prim.Native.Nat.{ℕ, _+_, _-_, _%_, _≤_, _<_}
+use Prim.Native.Nat.{ℕ, suc, _+_, _-_, _*_, _/_, _%_, _^_, _≤_, _<_}
 use native.Mathlib.Nat.{mod-lt, mod-le, mod-add-mod, mod-eq-of-lt, zero-add, add-sub-of-le, add-sub-cancel, lt-of-not-le}
+use native.Mathlib.Nat.{le-of-lt, mul-le-mul-right, suc-mul}
 use native.Mathlib.Omega.{arith}
 use lib.Dec.{leb, ltb, eqb}
-use lib.Pow.{pow-pos, mod-pow-add}
+use lib.Pow.{pow-pos, pow-add, mod-pow-add}
 use borrow.Author.Tests.{leb-true, ltb-true, eqb-true, le-leb, lt-ltb, eq-eqb}
 use Rattle.ground.proofs.Truth.{and-left, and-right, and-both}
 use Rattle.cidr.specs.Prefix.{addresses, keyOf, network, lengthOf, size, hostBits, isPrefix, holds, covers}
@@ -112,3 +113,22 @@ host-bits-fall len len′ a h =
 pub longer-later : (k k′ a : ℕ) → k < k′ → holds k a ≡ true → holds k′ a ≡ true → lengthOf k < lengthOf k′
 longer-later k k′ a lt h h′ =
     lt-of-not-le (λ e. omega (arith, host-bits-fall (lengthOf k) (lengthOf k′) a e, holds-is k a h, holds-is k′ a h′))
+
+-- and it ends no later
+block-end : (a j n : ℕ) → a % 2 ^ (j + n) + 2 ^ n ≤ a % 2 ^ n + 2 ^ (j + n)
+block-end a j n =
+    let q = a / 2 ^ n % 2 ^ j in
+    let fits : q * 2 ^ n + 2 ^ n ≤ 2 ^ j * 2 ^ n = rw suc-mul at (mul-le-mul-right (2 ^ n) (mod-lt (a / 2 ^ n) (pow-pos j))) in
+    rw (mod-pow-add a j n, pow-add 2 j n) (omega arith)
+
+host-bits-end : (len len′ a : ℕ) → len ≤ len′ → hostBits len a + size len′ ≤ hostBits len′ a + size len
+unfolding hostBits size
+host-bits-end len len′ a h =
+    let e : 32 - len ≡ (32 - len) - (32 - len′) + (32 - len′) = omega arith in
+    rw e (block-end a ((32 - len) - (32 - len′)) (32 - len′))
+
+pub ends-earlier : (k k′ a : ℕ) → k < k′ → holds k a ≡ true → holds k′ a ≡ true
+    → network k′ + size (lengthOf k′) ≤ network k + size (lengthOf k)
+ends-earlier k k′ a lt h h′ =
+    let ends = host-bits-end (lengthOf k) (lengthOf k′) a (le-of-lt (longer-later k k′ a lt h h′)) in
+    omega (arith, holds-is k a h, holds-is k′ a h′, host-bits-le (lengthOf k) a, host-bits-le (lengthOf k′) a)

@@ -23,7 +23,7 @@ use Rattle.routes.proofs.Formed.{half-ascends}
 abbrev pub keptHop : ℕ → ℕ → Row → ℕ
 keptHop h a r = cond (holds (r .key) a) (r .hop) h
 
-pub lastHop : ℕ → ℕ → List Row → ℕ
+unfoldable pub lastHop : ℕ → ℕ → List Row → ℕ
 lastHop h a [] = h
 lastHop h a (r ∷ rs) = lastHop (keptHop h a r) a rs
 
@@ -58,7 +58,7 @@ module _ (a : ℕ) where
       (λ m. last-longest (keptHop h a t) ts (ascending-tail t ts asc) r (longest-later t ts r m l))
       (List·Memᴰ·cases-cons (l .listed))
 
-  plain-last : (rows : List Row) → ascending rows ≡ true → plain rows a ≡ lastHop 0 a rows
+  pub plain-last : (rows : List Row) → ascending rows ≡ true → plain rows a ≡ lastHop 0 a rows
   plain-last rows asc =
       ⊎-elim (λ w. w .1 ∙ sym (last-none 0 rows (w .0))) (λ w. w .2 ∙ sym (last-longest 0 rows asc (w .0) (w .1))) (plain-cases rows a)
 

@@ -6,6 +6,6 @@ pub mod PlaceLaws
 pub mod Columns
 mod Rest
 mod Formed
-mod LastMatch
+pub mod LastMatch
 pub mod Settled
 mod Answer

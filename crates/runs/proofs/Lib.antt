@@ -3,3 +3,7 @@ pub mod Found
 pub mod Answers
 pub mod Lookups
 pub mod SettledLookups
+pub mod Sweep
+pub mod Turning
+pub mod Whole
+pub mod Settled

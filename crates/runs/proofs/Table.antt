@@ -22,7 +22,7 @@ use Rattle.routes.specs.Plain.{matching, plain}
 use Rattle.runs.specs.Table.{RunTable, startsOf, runHopsOf, runStarts}
 use Rattle.runs.specs.Table.Laws.{starts-are}
 
-getD-map : (f : ℕ → ℕ) (xs : List ℕ) (i : ℕ) → i < length xs → getD (map f xs) i 0 ≡ f (getD xs i 0)
+pub getD-map : (f : ℕ → ℕ) (xs : List ℕ) (i : ℕ) → i < length xs → getD (map f xs) i 0 ≡ f (getD xs i 0)
 getD-map f [] i l = absurd (omega arith)
 getD-map f (x ∷ xs) zero l = refl
 getD-map f (x ∷ xs) (suc i) l = getD-map f xs i (omega arith)

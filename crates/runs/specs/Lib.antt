@@ -4,3 +4,5 @@ pub mod Pair
 pub mod Bytes
 pub mod Lookup
 pub mod Probed
+pub mod Answers
+pub mod Sweep

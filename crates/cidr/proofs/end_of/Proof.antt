@@ -1,0 +1,22 @@
+-- `cidr::end_of` meets its contract: 1 shifted by the host bits is the prefix's size, and the sum fits, since a network is below 2^58.
+-- Assumes nothing.
+use mathlib.Core.Path.{_≡_}
+use borrow.Author.Needs.{needs}
+use Rattle.cidr.proofs.end_of.Statement.{statement}
+use Rattle.cidr.proofs.end_of.Tie as tie
+use Rattle.cidr.proofs.Bits.{shifted-size, end-fits}
+
+host-bits-requires : tie.Need-host-bits-requires
+host-bits-requires c κs = search needs
+
+shl-result : tie.Need-shl-result
+shl-result c = search needs
+
+add-result : tie.Need-add-result
+add-result c = rw (c .host-bits .ensures) record { fits = end-fits (c .before .args .key) (c .before .fits .key .fits) }
+
+returns : tie.Need-returns
+returns c = rw (c .host-bits .ensures, shifted-size (c .before .args .key))
+
+pub end-of-spec : {M : Type 1} → statement M
+end-of-spec = tie.close (tie.spec host-bits-requires shl-result add-result returns)

@@ -1,0 +1,387 @@
+// Document 01's figures that run in a program, and corners of the import. tests/figures/expected.py makes what it has to write.
+use feed::Counts;
+use feed::Imported;
+use routes::Looked;
+use runs::Built;
+ghost use Prim.Native.Nat.{_≤_};
+
+// What stands in a key's slot that nothing has written: 9.9.9.9/32. In a hop's slot and in the report it is 9.
+const UNWRITTEN: u64 = 9701573216;
+
+// The plain answer at an address.
+fn plain(count: usize, keys: &[u64], hops: &[u16], a: u32) {
+    match routes::plain_lookup(count, keys, hops, a) {
+        Looked::Hop(hop) => print::answer(a, hop),
+        Looked::IllFormed => print::text(b"11\n"),
+    }
+}
+
+// The plain answers of list A.
+fn plain_answers() {
+    print::text(b"# Plain answers of list A\n");
+    let mut keys = [0u64; 7];
+    let mut hops = [0u16; 7];
+    let mut report = [0u8; 7];
+    let a =
+        b"200.24.0.0/14 1\n200.26.0.0/15 2\n200.27.0.0/16 3\n200.27.64.0/18 1\n200.27.112.0/20 2\n200.27.128.0/20 1\n200.27.240.0/20 2\n";
+    feed::import(a, &mut keys, &mut hops, &mut report);
+    plain(7, &keys, &hops, 3357241514);
+    plain(7, &keys, &hops, 3357278208);
+    plain(7, &keys, &hops, 3357016063);
+    plain(7, &keys, &hops, 3357147135);
+    plain(7, &keys, &hops, 0);
+    plain(7, &keys, &hops, 4294967295);
+}
+
+// A number on a line of numbers.
+fn item(n: u64) {
+    print::text(b" ");
+    print::number(n);
+}
+
+// The number that an import returns, and the seven counts.
+fn counts(number: u64, c: Counts) {
+    print::line(b"number", number);
+    print::text(b"counts");
+    item(c.rows as u64);
+    item(c.taken as u64);
+    item(c.shape as u64);
+    item(c.range as u64);
+    item(c.hostbits as u64);
+    item(c.repeat as u64);
+    item(c.noroom as u64);
+    print::text(b"\n");
+}
+
+// Every byte of the report.
+fn show_report(report: &[u8]) {
+    print::text(b"report");
+    let mut i = 0;
+    while i < report.len() {
+        item(report[i] as u64);
+        i += 1;
+    }
+    print::text(b"\n");
+}
+
+// Every slot of the keys.
+fn show_keys(keys: &[u64]) {
+    print::text(b"keys");
+    let mut i = 0;
+    while i < keys.len() {
+        print::text(b" ");
+        print::prefix(keys[i]);
+        i += 1;
+    }
+    print::text(b"\n");
+}
+
+// Every slot of the hops.
+fn show_hops(hops: &[u16]) {
+    print::text(b"hops");
+    let mut i = 0;
+    while i < hops.len() {
+        item(hops[i] as u64);
+        i += 1;
+    }
+    print::text(b"\n");
+}
+
+// An import, and what it leaves in all that it was lent.
+fn imported(feed: &[u8], keys: &mut [u64], hops: &mut [u16], report: &mut [u8]) {
+    match feed::import(feed, keys, hops, report) {
+        Imported::Done(c) => counts(0, c),
+        Imported::ReportShort => {
+            let none = Counts {
+                rows: 0,
+                taken: 0,
+                shape: 0,
+                range: 0,
+                hostbits: 0,
+                repeat: 0,
+                noroom: 0,
+            };
+            counts(12, none);
+        }
+    }
+    show_report(report);
+    show_keys(keys);
+    show_hops(hops);
+}
+
+// An import into slots that hold what nothing has written, `k` for keys, `h` for hops and `r` for the report.
+fn import(name: &[u8], feed: &[u8], k: usize, h: usize, r: usize)
+    requires { ⌜ (k ≤ 16) × (h ≤ 16) × (r ≤ 16) ⌝ }
+{
+    print::text(b"# Import: ");
+    print::text(name);
+    print::text(b"\n");
+    let mut keys = [UNWRITTEN; 16];
+    let mut hops = [9u16; 16];
+    let mut report = [9u8; 16];
+    imported(feed, &mut keys[..k], &mut hops[..h], &mut report[..r]);
+}
+
+// The rows of document 01, and where rows begin and end.
+fn import_rows() {
+    import(
+        b"the five rows of document 01",
+        b"10.0.0.0/8 7\n10.0.0.1/8 7\n10.0.0.0/8 9\n\n10.1.0.0/16 70000\n",
+        3,
+        3,
+        6,
+    );
+    import(b"0 bytes", b"", 2, 2, 2);
+    import(b"only LFs", b"\n\n\n", 2, 2, 4);
+    import(b"no LF at all", b"1.0.0.0/8 1", 2, 2, 2);
+    import(
+        b"no LF after the last row",
+        b"1.0.0.0/8 1\n2.0.0.0/8 2",
+        3,
+        3,
+        3,
+    );
+    import(b"an empty row first", b"\n1.0.0.0/8 1\n", 2, 2, 3);
+    import(
+        b"keys in order",
+        b"3.0.0.0/8 3\n1.0.0.0/16 1\n2.0.0.0/8 2\n1.0.0.0/8 4\n",
+        5,
+        5,
+        4,
+    );
+}
+
+// Rows that aren't of the form.
+fn import_shapes() {
+    import(b"NUL", b"\0\n1.0.0.0/8 1\0\n1.0.0.0\0/8 1\n", 2, 2, 4);
+    import(
+        b"byte 255",
+        b"\xff\n1.0.0.0/8 1\xff\n\xff1.0.0.0/8 1\n",
+        2,
+        2,
+        4,
+    );
+    import(b"CR", b"1.0.0.0/8 1\r\n\r\n2.0.0.0/8 2\n", 2, 2, 4);
+    import(
+        b"tab",
+        b"1.0.0.0/8\t1\n1.0.0.0/8 1\t\n\t1.0.0.0/8 1\n",
+        2,
+        2,
+        4,
+    );
+    import(
+        b"spaces",
+        b"1.0.0.0/8  1\n 1.0.0.0/8 1\n1.0.0.0/8 1 \n1.0.0.0 /8 1\n1.0.0.0/81\n",
+        2,
+        2,
+        6,
+    );
+    import(
+        b"parts missing",
+        b"1.0.0.0/8 \n1.0.0.0/ 1\n1.0.0/8 1\n1.0.0./8 1\n.0.0.0/8 1\n1.0.0.0.0/8 1\n1.0.0.0 1\n",
+        2,
+        2,
+        8,
+    );
+    let digits = [b'1'; 400];
+    import(b"a very long row", &digits, 2, 2, 2);
+    import(
+        b"a long row before a good one",
+        b"1.0.0.0/8 1111111111111111111111111111111111111111111111111111111111111111\n2.0.0.0/8 2\n",
+        2,
+        2,
+        3,
+    );
+}
+
+// Rows of the form whose numbers are at or past an end, and host bits.
+fn import_numbers() {
+    import(
+        b"octets",
+        b"255.255.255.255/32 1\n256.0.0.0/8 1\n999.0.0.0/8 1\n1000.0.0.0/8 1\n0.0.0.256/32 1\n0.0.0.1000/32 1\n",
+        2,
+        2,
+        7,
+    );
+    import(
+        b"lengths",
+        b"0.0.0.0/0 1\n0.0.0.0/32 2\n0.0.0.0/33 1\n0.0.0.0/99 1\n0.0.0.0/100 1\n0.0.0.0/032 1\n",
+        3,
+        3,
+        7,
+    );
+    import(
+        b"hops",
+        b"1.0.0.0/8 65535\n2.0.0.0/8 65536\n3.0.0.0/8 70000\n4.0.0.0/8 100000\n5.0.0.0/8 0\n6.0.0.0/8 00000\n7.0.0.0/8 000001\n",
+        2,
+        2,
+        9,
+    );
+    import(
+        b"leading zeros",
+        b"010.000.00.0/08 00007\n10.0.0.0/8 9\n001.002.003.000/24 01\n",
+        3,
+        3,
+        4,
+    );
+    import(
+        b"host bits",
+        b"10.0.0.1/8 1\n10.0.0.1/31 1\n10.0.0.1/32 1\n128.0.0.0/0 1\n128.0.0.0/1 2\n0.0.0.1/0 1\n",
+        3,
+        3,
+        7,
+    );
+    import(
+        b"shape before range before host bits",
+        b"999.2.3.4/5 6x\n999.2.3.4/5 6\n1.2.3.4/5 6\n1.2.3.4/5 0\n",
+        2,
+        2,
+        5,
+    );
+}
+
+// Rooms and reports.
+fn import_rooms() {
+    import(
+        b"slices of length 0",
+        b"1.0.0.0/8 1\n\n1.0.0.0/8 1\n",
+        0,
+        0,
+        4,
+    );
+    import(b"keys of length 0", b"1.0.0.0/8 1\n", 0, 2, 2);
+    import(b"hops of length 0", b"1.0.0.0/8 1\n", 2, 0, 2);
+    import(
+        b"more keys than hops",
+        b"3.0.0.0/8 3\n2.0.0.0/8 2\n1.0.0.0/8 1\n",
+        4,
+        2,
+        4,
+    );
+    import(
+        b"more hops than keys",
+        b"3.0.0.0/8 3\n2.0.0.0/8 2\n1.0.0.0/8 1\n",
+        2,
+        4,
+        4,
+    );
+    import(
+        b"repeats after no room",
+        b"1.0.0.0/8 1\n2.0.0.0/8 2\n2.0.0.0/8 3\n1.0.0.0/8 4\n2.0.0.0/9 5\n\n2.0.0.1/8 6\n",
+        1,
+        1,
+        8,
+    );
+    import(
+        b"a report as long as the rows",
+        b"1.0.0.0/8 1\n\n2.0.0.0/8 2",
+        3,
+        3,
+        3,
+    );
+    import(
+        b"a report one byte short",
+        b"1.0.0.0/8 1\n\n2.0.0.0/8 2",
+        3,
+        3,
+        2,
+    );
+    import(b"a report of length 0", b"\n", 1, 1, 0);
+    import(b"a report of length 0 for 0 bytes", b"", 1, 1, 0);
+}
+
+// The number that a build returns, the count of runs, and every slot that it was lent.
+fn built(count: usize, keys: &[u64], hops: &[u16], starts: &mut [u32], rhops: &mut [u16]) {
+    let mut number = 0;
+    let mut n = 0;
+    match runs::build(count, keys, hops, starts, rhops) {
+        Built::Runs(runs) => n = runs,
+        Built::IllFormed => number = 11,
+        Built::NoRoom => number = 13,
+    }
+    print::line(b"number", number);
+    print::line(b"runs", n as u64);
+    print::runs(starts.len(), starts, rhops);
+}
+
+// The run table of a feed's list, built into `room` slots that hold what nothing has written.
+fn build(name: &[u8], feed: &[u8], room: usize)
+    requires { ⌜ room ≤ 16 ⌝ }
+{
+    print::text(b"# Run table: ");
+    print::text(name);
+    print::text(b"\n");
+    let mut keys = [0u64; 8];
+    let mut hops = [0u16; 8];
+    let mut report = [0u8; 8];
+    let Imported::Done(c) = feed::import(feed, &mut keys, &mut hops, &mut report) else {
+        return;
+    };
+    let count = c.taken;
+    let mut starts = [151587081u32; 16];
+    let mut rhops = [9u16; 16];
+    built(count, &keys, &hops, &mut starts[..room], &mut rhops[..room]);
+}
+
+// Document 01's run tables, and corners.
+fn builds() {
+    build(
+        b"list A",
+        b"200.24.0.0/14 1\n200.26.0.0/15 2\n200.27.0.0/16 3\n200.27.64.0/18 1\n200.27.112.0/20 2\n200.27.128.0/20 1\n200.27.240.0/20 2\n",
+        12,
+    );
+    build(
+        b"list A in as many slots as it has runs",
+        b"200.24.0.0/14 1\n200.26.0.0/15 2\n200.27.0.0/16 3\n200.27.64.0/18 1\n200.27.112.0/20 2\n200.27.128.0/20 1\n200.27.240.0/20 2\n",
+        10,
+    );
+    build(
+        b"list A in one slot less",
+        b"200.24.0.0/14 1\n200.26.0.0/15 2\n200.27.0.0/16 3\n200.27.64.0/18 1\n200.27.112.0/20 2\n200.27.128.0/20 1\n200.27.240.0/20 2\n",
+        9,
+    );
+    build(
+        b"A without 200.27.64.0/18",
+        b"200.24.0.0/14 1\n200.26.0.0/15 2\n200.27.0.0/16 3\n200.27.112.0/20 2\n200.27.128.0/20 1\n200.27.240.0/20 2\n",
+        10,
+    );
+    build(
+        b"A with 200.27.224.0/19 hop 1",
+        b"200.24.0.0/14 1\n200.26.0.0/15 2\n200.27.0.0/16 3\n200.27.64.0/18 1\n200.27.112.0/20 2\n\
+          200.27.128.0/20 1\n200.27.224.0/19 1\n200.27.240.0/20 2\n",
+        12,
+    );
+    build(
+        b"A with 200.27.224.0/19 hop 3",
+        b"200.24.0.0/14 1\n200.26.0.0/15 2\n200.27.0.0/16 3\n200.27.64.0/18 1\n200.27.112.0/20 2\n\
+          200.27.128.0/20 1\n200.27.224.0/19 3\n200.27.240.0/20 2\n",
+        12,
+    );
+    build(b"the empty list", b"", 2);
+    build(b"the empty list in no slot", b"", 0);
+    build(
+        b"only 255.255.255.255/32 hop 5",
+        b"255.255.255.255/32 5\n",
+        3,
+    );
+    build(b"0.0.0.0/0 hop 4", b"0.0.0.0/0 4\n", 2);
+    build(
+        b"a route between two siblings of its hop, under a parent of another",
+        b"10.0.0.0/8 1\n10.0.0.0/16 2\n10.1.0.0/16 2\n10.2.0.0/16 2\n",
+        5,
+    );
+    build(
+        b"the same without it",
+        b"10.0.0.0/8 1\n10.0.0.0/16 2\n10.2.0.0/16 2\n",
+        7,
+    );
+}
+
+fn main() {
+    plain_answers();
+    import_rows();
+    import_shapes();
+    import_numbers();
+    import_rooms();
+    builds();
+}

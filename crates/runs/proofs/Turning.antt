@@ -1,0 +1,241 @@
+-- The runs of an answer f from turn to turn: the sweep stands where f turns, or at the limit; the numbers picked before that place are the
+-- starts so far, and each move to the next turn adds one. Then what counting, writing and comparing make of that, for any f.
+-- Assumes nothing.
+use mathlib.Core.Path.{_≡_, refl, sym, ap, _∙_}
+use mathlib.Core.Bool.{Bool, true, false}
+use mathlib.Core.Logic.{⊎-elim}
+use mathlib.Core.List.{List, [], _∷_, _++_, map, map-append, append-assoc}
+use Prim.Native.Nat.{ℕ, zero, suc, _+_, _-_, _≤_, _<_}
+use native.Mathlib.Nat.{zero-add}
+use native.Mathlib.Numerals.{add-one}
+use native.Mathlib.Omega.{arith}
+use lib.ListN.{length, getD, take, drop, set, length-append, length-map, length-set}
+use lib.Seq.{take-suc, take-all, length-take-le, drop-cons, set-at}
+use lib.Dec.{eqb}
+use borrow.Author.Tests.{eqb-true, eqb-false, eq-eqb}
+use Rattle.ground.proofs.Truth.{decided, and-left, and-right, and-both, never-both}
+use Rattle.ground.specs.Slots.{written, same}
+use Rattle.ground.specs.Stretch.{picked, counted, turns}
+use Rattle.ground.specs.Stretch.Laws.{picked-none, picked-suc, picked-cut}
+use Rattle.ground.specs.Stretch.Count.{counted-is, counted-le, counted-all, picked-at}
+use Rattle.ground.specs.Stretch.Turns.{turns-at-zero, turns-of-ne, stays-of-same}
+use Rattle.runs.specs.Sweep.{lastOr, allRows, answer, Sorted, Stack, Turned, RunsWritten, areRuns}
+use Rattle.runs.proofs.Table.{getD-map}
+use Rattle.runs.proofs.Sweep.{few-open, standing-answer}
+
+picked-empty : (p : ℕ → Bool) (lo n : ℕ) → ((a : ℕ) → lo ≤ a → a < lo + n → p a ≡ false) → picked p lo n ≡ []
+picked-empty p lo zero h = picked-none p lo
+picked-empty p lo (suc n) h =
+    rw (picked-suc, h lo (omega arith) (omega arith)) (picked-empty p (suc lo) n (λ a l m. h a (omega arith) (omega arith)))
+
+pub counted-at-most : (p : ℕ → Bool) (n : ℕ) → counted p 0 n ≤ n
+counted-at-most p n =
+    omega (arith, counted-le p (λ a. true) 0 n (λ a l m e. refl), counted-all (λ a. true) 0 n (λ a l m. refl))
+
+pub counted-nothing : (p : ℕ → Bool) (at : ℕ) → at ≡ 0 → 0 ≡ counted p 0 at
+counted-nothing p at e = rw (e, counted-is, picked-none)
+
+-- from one turn to the next
+module _ (f : ℕ → ℕ) (at b : ℕ) (past : at < b) (stays : (a : ℕ) → at ≤ a → a < b → f a ≡ f at) where
+  turns-again : (f b ≡ f at → ⊥) → turns f b ≡ true
+  turns-again ne = turns-of-ne f b (λ e. ne (e ∙ stays (b - 1) (omega arith) (omega arith)))
+
+  picked-turn : turns f at ≡ true → picked (turns f) 0 b ≡ picked (turns f) 0 at ++ (at ∷ [])
+  picked-turn e =
+      let whole : b ≡ at + suc (b - suc at) = omega arith in
+      ap (picked (turns f) 0) whole ∙ picked-cut (turns f) 0 at (suc (b - suc at)) ∙ rw (zero-add, picked-suc, e, none-between)
+    where
+      none-between : picked (turns f) (suc at) (b - suc at) ≡ []
+      none-between = picked-empty (turns f) (suc at) (b - suc at)
+          (λ a l m. stays-of-same f a (omega arith) (stays a (omega arith) (omega arith) ∙ sym (stays (a - 1) (omega arith) (omega arith))))
+
+  pub counted-turn : turns f at ≡ true → counted (turns f) 0 b ≡ counted (turns f) 0 at + 1
+  counted-turn e = simp counted-is (rw (picked-turn e, length-append))
+
+-- The sweep at a turn of the rows' answer, or at the limit.
+pub record Sweeping (keys hops : List ℕ) (base limit : ℕ) (ends labels : List ℕ) (row depth at : ℕ) : Type 0 where
+  pub sorted : Sorted keys hops
+  pub upto : at ≤ limit
+  pub stands : at < limit → Stack keys hops ends labels row depth at (at + 1)
+  pub turn : at < limit → turns (answer base (allRows keys hops)) at ≡ true
+
+pub sweeping-start : {keys hops ends labels : List ℕ} (base limit : ℕ) {row depth at : ℕ} → Sorted keys hops
+    → Stack keys hops ends labels row depth 0 1 → at ≡ 0 → Sweeping keys hops base limit ends labels row depth at
+sweeping-start base limit s k e =
+    rw e record { sorted = s; upto = omega arith; stands = λ l. k; turn = λ l. turns-at-zero _ }
+
+module _ {keys hops ends labels : List ℕ} {base limit row depth at : ℕ} (w : Sweeping keys hops base limit ends labels row depth at)
+    (before : at < limit) where
+  -- what the next turn is asked
+  pub sweeping-asks : Sorted keys hops × Stack keys hops ends labels row depth at (at + 1) × (at < limit)
+  sweeping-asks = (w .sorted, w .stands before, before)
+
+  pub sweeping-top-asks : (depth ≤ 33) × (length labels ≡ 33)
+  sweeping-top-asks = (few-open (w .sorted) (w .stands before), w .stands before .labels-room)
+
+  pub sweeping-top : {hop : ℕ} → hop ≡ lastOr base (take depth labels) → hop ≡ answer base (allRows keys hops) at
+  sweeping-top e = e ∙ sym (standing-answer (w .sorted) (w .stands before) base (omega arith))
+
+  module _ {ends′ labels′ : List ℕ} {row′ depth′ at′ : ℕ} (t : Turned keys hops ends′ labels′ base limit at row′ depth′ at′) where
+    pub sweeping-on : Sweeping keys hops base limit ends′ labels′ row′ depth′ at′
+    sweeping-on = record {
+      sorted = w .sorted;
+      upto = t .upto;
+      stands = t .stands;
+      turn = λ l. turns-again (answer base (allRows keys hops)) at at′ (t .past) (t .stays) (t .turned l);
+    }
+
+    pub sweeping-counted : {n : ℕ} → n ≡ counted (turns (answer base (allRows keys hops))) 0 at
+        → n + 1 ≡ counted (turns (answer base (allRows keys hops))) 0 at′
+    sweeping-counted e = rw e (sym (counted-turn (answer base (allRows keys hops)) at at′ (t .past) (t .stays) (w .turn before)))
+
+-- Writing: what stands in the slices are the runs before the place, and then the slots as they were.
+module _ (xs old : List ℕ) where
+  written-more : (v : ℕ) → length xs < length old → set (written xs old) (length xs) v ≡ written (xs ++ (v ∷ [])) old
+  unfolding written
+  written-more v l =
+      rw (drop-cons old (length xs) 0 l, length-append, add-one, append-assoc)
+      (set-at xs _ _ v (length xs) refl)
+
+pub record Writing (f : ℕ → ℕ) (limit at n : ℕ) (starts₀ rhops₀ starts rhops : List ℕ) : Type 0 where
+  pub room : counted (turns f) 0 limit ≤ length starts₀
+  pub hop-room : counted (turns f) 0 limit ≤ length rhops₀
+  pub as-long : length starts ≡ length starts₀
+  pub hops-as-long : length rhops ≡ length rhops₀
+  pub written-so-far : RunsWritten f at starts₀ rhops₀ n starts rhops
+
+pub writing-start : {f : ℕ → ℕ} {limit at : ℕ} {starts rhops : List ℕ} → at ≡ 0 → counted (turns f) 0 limit ≤ length starts
+    → counted (turns f) 0 limit ≤ length rhops → Writing f limit at 0 starts rhops starts rhops
+unfolding written
+writing-start {f} e l m = rw e record {
+  room = l;
+  hop-room = m;
+  as-long = refl;
+  hops-as-long = refl;
+  written-so-far = record {
+    count = counted-nothing (turns f) 0 refl;
+    starts-are = rw picked-none;
+    hops-are = rw picked-none;
+  };
+}
+
+pub writing-few : {f : ℕ → ℕ} {limit at n : ℕ} {starts₀ rhops₀ starts rhops : List ℕ} → Writing f limit at n starts₀ rhops₀ starts rhops → n ≤ at
+writing-few {f} {at = at} w = omega (arith, w .written-so-far .count, counted-at-most (turns f) at)
+
+module _ {f : ℕ → ℕ} {limit at n : ℕ} {starts₀ rhops₀ starts rhops : List ℕ} (w : Writing f limit at n starts₀ rhops₀ starts rhops)
+    (before : at < limit) (turn : turns f at ≡ true) where
+  so-far : n ≡ length (picked (turns f) 0 at)
+  so-far = w .written-so-far .count ∙ counted-is (turns f) 0 at
+
+  one-more : n < counted (turns f) 0 limit
+  one-more =
+      rw (w .written-so-far .count, counted-is (turns f) 0 limit)
+      (picked-at (turns f) 0 limit at at (sym (zero-add at)) before turn .0)
+
+  pub start-fits : n < length starts
+  start-fits = omega (arith, one-more, w .room, w .as-long)
+
+  pub hop-fits : n < length rhops
+  hop-fits = omega (arith, one-more, w .hop-room, w .hops-as-long)
+
+  pub writing-on : {at′ hop : ℕ} → at < at′ → ((a : ℕ) → at ≤ a → a < at′ → f a ≡ f at) → hop ≡ f at
+      → Writing f limit at′ (n + 1) starts₀ rhops₀ (set starts n at) (set rhops n hop)
+  writing-on {at′} {hop} past stays e = record {
+    room = w .room;
+    hop-room = w .hop-room;
+    as-long = length-set starts n at ∙ w .as-long;
+    hops-as-long = length-set rhops n hop ∙ w .hops-as-long;
+    written-so-far = record {
+      count = rw (w .written-so-far .count) (sym (counted-turn f at at′ past stays turn));
+      starts-are =
+          rw (w .written-so-far .starts-are, so-far, written-more (picked (turns f) 0 at) starts₀ at (omega (arith, so-far, one-more, w .room)))
+          (rw (picked-turn f at at′ past stays turn));
+      hops-are =
+          rw (w .written-so-far .hops-are, e, hops-so-far, written-more (map f (picked (turns f) 0 at)) rhops₀ (f at) (rw length-map (omega (arith, so-far, one-more, w .hop-room))))
+          (rw (picked-turn f at at′ past stays turn, map-append));
+    };
+  }
+    where
+      hops-so-far : n ≡ length (map f (picked (turns f) 0 at))
+      hops-so-far = so-far ∙ sym (length-map (picked (turns f) 0 at) f)
+
+-- Comparing: what was passed of the slices are the runs before the place.
+same-is : (xs ys : List ℕ) → same xs ys ≡ true → xs ≡ ys
+unfolding same
+same-is [] [] e = refl
+same-is [] (y ∷ ys) e = never-both e refl
+same-is (x ∷ xs) [] e = never-both e refl
+same-is (x ∷ xs) (y ∷ ys) e =
+    let heads = eqb-true x y (and-left (eqb x y) (same xs ys) e) in
+    let tails = same-is xs ys (and-right (eqb x y) (same xs ys) e) in
+    cc
+
+same-self : (xs : List ℕ) → same xs xs ≡ true
+unfolding same
+same-self [] = refl
+same-self (x ∷ xs) = and-both (eq-eqb x x refl) (same-self xs)
+
+module _ (f : ℕ → ℕ) (limit : ℕ) (starts rhops : List ℕ) where
+  are-parts : areRuns f limit starts rhops ≡ true → (starts ≡ picked (turns f) 0 limit) × (rhops ≡ map f (picked (turns f) 0 limit))
+  unfolding areRuns
+  are-parts e =
+      (same-is _ _ (and-left (same starts (picked (turns f) 0 limit)) _ e), same-is _ _ (and-right (same starts (picked (turns f) 0 limit)) _ e))
+
+  are-not : ((starts ≡ picked (turns f) 0 limit) × (rhops ≡ map f (picked (turns f) 0 limit)) → ⊥) → areRuns f limit starts rhops ≡ false
+  are-not h = ⊎-elim (λ e. absurd (h (are-parts e))) (λ e. e) (decided (areRuns f limit starts rhops))
+
+  are-runs : starts ≡ picked (turns f) 0 limit → rhops ≡ map f (picked (turns f) 0 limit) → areRuns f limit starts rhops ≡ true
+  unfolding areRuns
+  are-runs e e′ = rw (e, e′) (and-both (same-self (picked (turns f) 0 limit)) (same-self (map f (picked (turns f) 0 limit))))
+
+pub record Comparing (f : ℕ → ℕ) (at n : ℕ) (starts rhops : List ℕ) : Type 0 where
+  pub paired : length rhops ≡ length starts
+  pub within : n ≤ length starts
+  pub starts-same : take n starts ≡ picked (turns f) 0 at
+  pub hops-same : take n rhops ≡ map f (picked (turns f) 0 at)
+
+pub comparing-start : {f : ℕ → ℕ} {at : ℕ} {starts rhops : List ℕ} → at ≡ 0 → length rhops ≡ length starts → Comparing f at 0 starts rhops
+comparing-start z e = rw z record { paired = e; within = omega arith; starts-same = rw picked-none; hops-same = rw picked-none }
+
+module _ {f : ℕ → ℕ} {at n : ℕ} {starts rhops : List ℕ} (k : Comparing f at n starts rhops) where
+  passed : n ≡ length (picked (turns f) 0 at)
+  passed = sym (length-take-le n starts (k .within)) ∙ ap length (k .starts-same)
+
+  pub comparing-end : eqb n (length starts) ≡ areRuns f at starts rhops
+  comparing-end = ⊎-elim all short (decided (eqb n (length starts)))
+    where
+      all : eqb n (length starts) ≡ true → eqb n (length starts) ≡ areRuns f at starts rhops
+      all e =
+          let q : n ≡ length starts = eqb-true n (length starts) e in
+          e ∙ sym (are-runs f at starts rhops
+          (sym (take-all n starts (omega arith)) ∙ k .starts-same) (sym (take-all n rhops (omega (arith, k .paired))) ∙ k .hops-same))
+
+      short : eqb n (length starts) ≡ false → eqb n (length starts) ≡ areRuns f at starts rhops
+      short e = e ∙ sym (are-not f at starts rhops (λ w. eqb-false n (length starts) e (passed ∙ sym (ap length (w .0)))))
+
+  module _ {limit : ℕ} (before : at < limit) (turn : turns f at ≡ true) where
+    found : (n < length (picked (turns f) 0 limit)) × (getD (picked (turns f) 0 limit) n 0 ≡ at)
+    found =
+        rw (passed, ← counted-is (turns f) 0 at) (picked-at (turns f) 0 limit at at (sym (zero-add at)) before turn)
+
+    pub too-few : length starts ≤ n → false ≡ areRuns f limit starts rhops
+    too-few l = sym (are-not f limit starts rhops (λ w. omega (arith, found .0, ap length (w .0))))
+
+    pub other-start : (getD starts n 0 ≡ at → ⊥) → false ≡ areRuns f limit starts rhops
+    other-start ne = sym (are-not f limit starts rhops (λ w. ne (ap (λ xs. getD xs n 0) (w .0) ∙ found .1)))
+
+    pub other-hop : (getD rhops n 0 ≡ f at → ⊥) → false ≡ areRuns f limit starts rhops
+    other-hop ne =
+        sym (are-not f limit starts rhops
+        (λ w. ne (ap (λ xs. getD xs n 0) (w .1) ∙ getD-map f (picked (turns f) 0 limit) n (found .0) ∙ ap f (found .1))))
+
+  pub comparing-on : {at′ : ℕ} → at < at′ → ((a : ℕ) → at ≤ a → a < at′ → f a ≡ f at) → turns f at ≡ true → n < length starts
+      → getD starts n 0 ≡ at → getD rhops n 0 ≡ f at → Comparing f at′ (n + 1) starts rhops
+  comparing-on {at′} past stays turn l e e′ = record {
+    paired = k .paired;
+    within = omega arith;
+    starts-same = rw (add-one, take-suc starts n 0 l, e, k .starts-same) (sym (picked-turn f at at′ past stays turn));
+    hops-same =
+        rw (add-one, take-suc rhops n 0 (omega (arith, k .paired)), e′, k .hops-same)
+        (sym (rw (picked-turn f at at′ past stays turn, map-append)));
+  }

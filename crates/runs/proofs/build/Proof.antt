@@ -1,0 +1,55 @@
+-- `runs::build` meets its contract: 11 where the list test fails, else what `build_rows` makes of the slices of its rows.
+-- Assumes nothing.
+use mathlib.Core.Path.{_≡_, sym, _∙_}
+use mathlib.Core.Bool.{true}
+use lib.Seq.{length-take-le}
+use denote.Ref.{now}
+use Rattle.ground.proofs.Truth.{not-true, not-false}
+use Rattle.routes.specs.WellFormed.{wellFormed}
+use Rattle.runs.proofs.Whole.{list-test, in-keys, in-hops, slices-rows, slices-sorted, built-ill, built-rows}
+use borrow.Author.Needs.{needs}
+use Rattle.runs.proofs.build.Statement.{statement}
+use Rattle.runs.proofs.build.Tie as tie
+
+list-ok-requires : tie.Need-list-ok-requires
+list-ok-requires c κs = search needs
+
+-- what the branch past the list test knows
+ok : (c : tie.Else1) → let a = c .before .before .before .before .before .before .args in wellFormed (a .count) (now (a .keys)) (now (a .hops)) ≡ true
+ok c = list-test _ _ _ (c .before .list-ok .ensures) ∙ not-false _ (c .if1 .left)
+
+returns : tie.Need-returns
+returns c = built-ill (list-test _ _ _ (c .before .list-ok .ensures) ∙ not-true _ (c .if1 .taken))
+
+slice-aggregate-build-rows : tie.Need-slice-aggregate-build-rows
+slice-aggregate-build-rows c = sym (length-take-le _ _ (in-keys _ _ _ (ok (c .before))))
+
+slice-aggregate-build-rows-2 : tie.Need-slice-aggregate-build-rows-2
+slice-aggregate-build-rows-2 c = sym (length-take-le _ _ (in-hops _ _ _ (ok (c .before .before))))
+
+build-rows-requires : tie.Need-build-rows-requires
+build-rows-requires c κs = slices-sorted _ _ _ (ok (c .before .before .before .before))
+
+same-length : tie.Need-same-length
+same-length c = search needs
+
+same-length-2 : tie.Need-same-length-2
+same-length-2 c = search needs
+
+returns-2 : tie.Need-returns-2
+returns-2 c =
+    let fine = ok (c .before .before .before .before .before .before .before .before .before) in
+    built-rows fine (rw (slices-rows _ _ _ fine) at (c .before .before .before .before .build-rows .ensures))
+
+pub build-spec : {M : Type 1} → statement M
+build-spec =
+    tie.close
+    (tie.spec
+    list-ok-requires
+    returns
+    slice-aggregate-build-rows
+    slice-aggregate-build-rows-2
+    build-rows-requires
+    same-length
+    same-length-2
+    returns-2)

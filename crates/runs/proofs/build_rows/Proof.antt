@@ -1,0 +1,68 @@
+-- `runs::build_rows` meets its contract: where the runs are more than the room nothing was written, else `write_runs` had room for them.
+-- Assumes nothing.
+use mathlib.Core.Path.{_≡_, sym, _∙_}
+use mathlib.Core.Bool.{true}
+use native.Mathlib.Omega.{arith}
+use lib.ListN.{length}
+use lib.Dec.{leb}
+use denote.Ref.{now}
+use Rattle.ground.proofs.Truth.{not-true, not-false}
+use Rattle.runs.specs.Table.{runStarts}
+use Rattle.runs.specs.Build.{runRoom}
+use Rattle.runs.specs.Sweep.{allRows}
+use Rattle.runs.proofs.Whole.{rows-no-room, room-for-runs, rows-runs}
+use borrow.Author.Needs.{needs}
+use Rattle.runs.proofs.build_rows.Statement.{statement}
+use Rattle.runs.proofs.build_rows.Tie as tie
+
+run-room-requires : tie.Need-run-room-requires
+run-room-requires c κs = search needs
+
+room-enough-requires : tie.Need-room-enough-requires
+room-enough-requires c κs = search needs
+
+same-length : tie.Need-same-length
+same-length c = search needs
+
+same-length-2 : tie.Need-same-length-2
+same-length-2 c = search needs
+
+-- what the branch past the room test knows
+enough : (c : tie.Else1) → let a = c .before .before .before .before .before .before .before .before .before .args in
+    leb (length (runStarts (allRows (now (a .keys)) (now (a .hops))))) (runRoom (now (a .starts)) (now (a .rhops))) ≡ true
+enough c = rw (sym (c .before .before .run-room .ensures)) (sym (c .before .room-enough .ensures) ∙ not-false _ (c .if1 .left))
+
+returns : tie.Need-returns
+returns c =
+    let start = c .before .before .before .before .before .before .before .before .before in
+    rows-no-room (start .pre) _ _
+    (rw (sym (c .before .before .run-room .ensures)) (sym (c .before .room-enough .ensures) ∙ not-true _ (c .if1 .taken)))
+
+write-runs-requires : tie.Need-write-runs-requires
+write-runs-requires c κs =
+    let pre = c .before .before .before .before .before .before .before .before .before .before .before .pre in
+    let room = room-for-runs pre _ _ (enough (c .before .before)) in
+    (pre, omega arith, room .0, room .1)
+
+same-length-3 : tie.Need-same-length-3
+same-length-3 c = search needs
+
+same-length-4 : tie.Need-same-length-4
+same-length-4 c = search needs
+
+returns-2 : tie.Need-returns-2
+returns-2 c = rows-runs (c .before .before .before .before .before .before .before .before .before .before .before .before .before .before .before .before .pre) _ _ (enough (c .before .before .before .before .before .before .before)) (c .before .before .before .before .write-runs .ensures)
+
+pub build-rows-spec : {M : Type 1} → statement M
+build-rows-spec =
+    tie.close
+    (tie.spec
+    run-room-requires
+    room-enough-requires
+    same-length
+    same-length-2
+    returns
+    write-runs-requires
+    same-length-3
+    same-length-4
+    returns-2)

@@ -1,0 +1,106 @@
+-- `runs::write_runs` meets its contract. The loop stands at a turn of the answer, or at the limit, and has written the runs before it.
+-- Assumes nothing.
+use mathlib.Core.Path.{_≡_, refl}
+use Prim.Native.Nat.{_-_, _≤_}
+use native.Mathlib.Omega.{arith}
+use Rattle.runs.specs.Sweep.{allRows, answer}
+use Rattle.runs.proofs.Sweep.{standing-start}
+use Rattle.runs.proofs.Turning.{Sweeping, sweeping-start, sweeping-asks, sweeping-top-asks, sweeping-top, sweeping-on}
+use Rattle.runs.proofs.Turning.{Writing, writing-start, writing-few, start-fits, hop-fits, writing-on}
+use Rattle.runs.proofs.write_runs.Statement.{statement}
+use Rattle.runs.proofs.write_runs.Tie as tie
+
+abbrev Inv-loop : tie.InvT-loop
+Inv-loop keys hops base limit starts₀ rhops₀ ends₀ labels₀ s₀ n₀ starts rhops ends labels s n =
+    Sweeping keys hops base limit ends labels (s .row) (s .depth) (s .at)
+    × Writing (answer base (allRows keys hops)) limit (s .at) n starts₀ rhops₀ starts rhops
+    × (limit ≤ 4294967296)
+
+abbrev μ-loop : tie.MeasureT-loop
+μ-loop keys hops base limit starts₀ rhops₀ ends₀ labels₀ s₀ n₀ starts rhops ends labels s n = limit - s .at
+
+open-here-requires : tie.Need-open-here-requires Inv-loop μ-loop
+open-here-requires c κs = (c .before .before .before .before .before .before .pre .0, standing-start refl refl)
+
+loop-holds : tie.Need-loop-holds Inv-loop μ-loop
+loop-holds c =
+    let o = c .open-here .ensures in
+    let pre = c .before .before .before .before .before .before .before .pre in
+    (sweeping-start _ _ (pre .0) (o .1) (o .0), writing-start (o .0) (pre .2) (pre .3), pre .1)
+
+cast-starts : tie.Need-cast-starts Inv-loop μ-loop
+cast-starts c = omega (arith, c .before .before .before .loop .inv .2, c .before .if1 .taken)
+
+mul-starts : tie.Need-mul-starts Inv-loop μ-loop
+mul-starts c = let inv = c .before .before .before .loop .inv in omega (arith, writing-few (inv .1), inv .2, c .before .if1 .taken)
+
+slice-write-starts : tie.Need-slice-write-starts Inv-loop μ-loop
+slice-write-starts c =
+    let inv = c .before .before .before .loop .inv in
+    let before = c .before .if1 .taken in
+    start-fits (inv .1) before (inv .0 .turn before)
+
+top-hop-requires : tie.Need-top-hop-requires Inv-loop μ-loop
+top-hop-requires c κs = sweeping-top-asks (c .before .before .before .before .loop .inv .0) (c .before .before .if1 .taken)
+
+mul-rhops : tie.Need-mul-rhops Inv-loop μ-loop
+mul-rhops c = let inv = c .before .before .before .before .before .loop .inv in omega (arith, writing-few (inv .1), inv .2, c .before .before .before .if1 .taken)
+
+slice-write-rhops : tie.Need-slice-write-rhops Inv-loop μ-loop
+slice-write-rhops c =
+    let inv = c .before .before .before .before .before .loop .inv in
+    let before = c .before .before .before .if1 .taken in
+    hop-fits (inv .1) before (inv .0 .turn before)
+
+add-n : tie.Need-add-n Inv-loop μ-loop
+add-n c = let inv = c .before .before .before .before .before .loop .inv in omega (arith, writing-few (inv .1), inv .2, c .before .before .before .if1 .taken)
+
+next-turn-requires : tie.Need-next-turn-requires Inv-loop μ-loop
+next-turn-requires c κs = sweeping-asks (c .before .before .before .before .before .before .before .loop .inv .0) (c .before .before .before .before .before .if1 .taken)
+
+loop-less : tie.Need-loop-less Inv-loop μ-loop
+loop-less c = omega (arith, c .next-turn .ensures .past, c .next-turn .ensures .upto)
+
+loop-again : tie.Need-loop-again Inv-loop μ-loop
+loop-again c =
+    let inv = c .before .before .before .before .before .before .before .before .loop .inv in
+    let before = c .before .before .before .before .before .before .if1 .taken in
+    let t = c .next-turn .ensures in (
+      sweeping-on (inv .0) before t,
+      writing-on (inv .1) before (inv .0 .turn before) (t .past) (t .stays) (sweeping-top (inv .0) before (c .before .before .before .top-hop .ensures)),
+      inv .2,
+    )
+
+same-length : tie.Need-same-length Inv-loop μ-loop
+same-length c = c .before .before .loop .inv .1 .as-long
+
+same-length-2 : tie.Need-same-length-2 Inv-loop μ-loop
+same-length-2 c = c .before .before .loop .inv .1 .hops-as-long
+
+returns : tie.Need-returns Inv-loop μ-loop
+returns c =
+    let inv = c .before .before .loop .inv in
+    let there : c .before .before .loop .s .at ≡ c .before .before .before .before .before .before .before .before .before .before .args .limit = omega (arith, inv .0 .upto, c .if1 .left) in
+    rw there at (inv .1 .written-so-far)
+
+pub write-runs-spec : {M : Type 1} → statement M
+write-runs-spec =
+    tie.close
+    (tie.spec
+    Inv-loop
+    μ-loop
+    open-here-requires
+    loop-holds
+    cast-starts
+    mul-starts
+    slice-write-starts
+    top-hop-requires
+    mul-rhops
+    slice-write-rhops
+    add-n
+    next-turn-requires
+    loop-less
+    loop-again
+    same-length
+    same-length-2
+    returns)

@@ -1,0 +1,50 @@
+// The program: a text feed from standard input, at most 16,384 bytes, into a list of at most 1,024 rows. It writes the seven counts, a line
+// each, and the list's run table, a line a run; a longer feed gets the one line `feed too long`.
+use feed::Counts;
+use feed::Imported;
+use libc::STDIN_FILENO;
+use runs::Built;
+
+// The seven counts, a line each.
+fn counts(c: Counts) {
+    print::line(b"rows", c.rows as u64);
+    print::line(b"taken", c.taken as u64);
+    print::line(b"shape", c.shape as u64);
+    print::line(b"range", c.range as u64);
+    print::line(b"hostbits", c.hostbits as u64);
+    print::line(b"repeat", c.repeat as u64);
+    print::line(b"noroom", c.noroom as u64);
+}
+
+// The run table of a list. A list of 1,024 rows has at most 2,049 runs, so the room is always enough.
+fn table(count: usize, keys: &[u64], hops: &[u16]) {
+    let mut starts = [0u32; 2049];
+    let mut rhops = [0u16; 2049];
+    let Built::Runs(n) = runs::build(count, keys, hops, &mut starts, &mut rhops) else {
+        return;
+    };
+    print::runs(n, &starts, &rhops);
+}
+
+// What the program writes for a feed that isn't too long. Such a feed has at most 16,384 rows, so the report is always long enough.
+fn answer(feed: &[u8]) {
+    let mut keys = [0u64; 1024];
+    let mut hops = [0u16; 1024];
+    let mut report = [0u8; 16384];
+    let Imported::Done(c) = feed::import(feed, &mut keys, &mut hops, &mut report) else {
+        return;
+    };
+    let count = c.taken;
+    counts(c);
+    table(count, &keys, &hops);
+}
+
+fn main() {
+    let mut input = [0u8; 16385];
+    let n = io::read_full(STDIN_FILENO, &mut input);
+    if 16384 < n {
+        print::text(b"feed too long\n");
+        return;
+    }
+    answer(&input[..n]);
+}

@@ -1,0 +1,128 @@
+#!/usr/bin/env python3
+"""Writes what the program `figures` has to write: document 01's figures by hand, and the rest by the reference."""
+import pathlib
+import sys
+
+sys.path.insert(0, str(pathlib.Path(__file__).resolve().parent.parent))
+from reference import counts_of, dotted, import_feed, runs_of
+
+PLAIN_ANSWERS = """\
+# Plain answers of list A
+200.27.112.170 2
+200.28.0.0 0
+200.23.255.255 0
+200.25.255.255 1
+0.0.0.0 0
+255.255.255.255 0
+"""
+
+# Each import: its name, its feed, and the lengths of keys, hops and report.
+IMPORTS = [
+    ("the five rows of document 01", b"10.0.0.0/8 7\n10.0.0.1/8 7\n10.0.0.0/8 9\n\n10.1.0.0/16 70000\n", 3, 3, 6),
+    ("0 bytes", b"", 2, 2, 2),
+    ("only LFs", b"\n\n\n", 2, 2, 4),
+    ("no LF at all", b"1.0.0.0/8 1", 2, 2, 2),
+    ("no LF after the last row", b"1.0.0.0/8 1\n2.0.0.0/8 2", 3, 3, 3),
+    ("an empty row first", b"\n1.0.0.0/8 1\n", 2, 2, 3),
+    ("keys in order", b"3.0.0.0/8 3\n1.0.0.0/16 1\n2.0.0.0/8 2\n1.0.0.0/8 4\n", 5, 5, 4),
+    ("NUL", b"\x00\n1.0.0.0/8 1\x00\n1.0.0.0\x00/8 1\n", 2, 2, 4),
+    ("byte 255", b"\xff\n1.0.0.0/8 1\xff\n\xff1.0.0.0/8 1\n", 2, 2, 4),
+    ("CR", b"1.0.0.0/8 1\r\n\r\n2.0.0.0/8 2\n", 2, 2, 4),
+    ("tab", b"1.0.0.0/8\t1\n1.0.0.0/8 1\t\n\t1.0.0.0/8 1\n", 2, 2, 4),
+    ("spaces", b"1.0.0.0/8  1\n 1.0.0.0/8 1\n1.0.0.0/8 1 \n1.0.0.0 /8 1\n1.0.0.0/81\n", 2, 2, 6),
+    ("parts missing", b"1.0.0.0/8 \n1.0.0.0/ 1\n1.0.0/8 1\n1.0.0./8 1\n.0.0.0/8 1\n1.0.0.0.0/8 1\n1.0.0.0 1\n", 2, 2, 8),
+    ("a very long row", 400 * b"1", 2, 2, 2),
+    ("a long row before a good one", b"1.0.0.0/8 " + 64 * b"1" + b"\n2.0.0.0/8 2\n", 2, 2, 3),
+    ("octets", b"255.255.255.255/32 1\n256.0.0.0/8 1\n999.0.0.0/8 1\n1000.0.0.0/8 1\n0.0.0.256/32 1\n0.0.0.1000/32 1\n", 2, 2, 7),
+    ("lengths", b"0.0.0.0/0 1\n0.0.0.0/32 2\n0.0.0.0/33 1\n0.0.0.0/99 1\n0.0.0.0/100 1\n0.0.0.0/032 1\n", 3, 3, 7),
+    ("hops", b"1.0.0.0/8 65535\n2.0.0.0/8 65536\n3.0.0.0/8 70000\n4.0.0.0/8 100000\n5.0.0.0/8 0\n"
+     b"6.0.0.0/8 00000\n7.0.0.0/8 000001\n", 2, 2, 9),
+    ("leading zeros", b"010.000.00.0/08 00007\n10.0.0.0/8 9\n001.002.003.000/24 01\n", 3, 3, 4),
+    ("host bits", b"10.0.0.1/8 1\n10.0.0.1/31 1\n10.0.0.1/32 1\n128.0.0.0/0 1\n128.0.0.0/1 2\n0.0.0.1/0 1\n", 3, 3, 7),
+    ("shape before range before host bits", b"999.2.3.4/5 6x\n999.2.3.4/5 6\n1.2.3.4/5 6\n1.2.3.4/5 0\n", 2, 2, 5),
+    ("slices of length 0", b"1.0.0.0/8 1\n\n1.0.0.0/8 1\n", 0, 0, 4),
+    ("keys of length 0", b"1.0.0.0/8 1\n", 0, 2, 2),
+    ("hops of length 0", b"1.0.0.0/8 1\n", 2, 0, 2),
+    ("more keys than hops", b"3.0.0.0/8 3\n2.0.0.0/8 2\n1.0.0.0/8 1\n", 4, 2, 4),
+    ("more hops than keys", b"3.0.0.0/8 3\n2.0.0.0/8 2\n1.0.0.0/8 1\n", 2, 4, 4),
+    ("repeats after no room",
+     b"1.0.0.0/8 1\n2.0.0.0/8 2\n2.0.0.0/8 3\n1.0.0.0/8 4\n2.0.0.0/9 5\n\n2.0.0.1/8 6\n", 1, 1, 8),
+    ("a report as long as the rows", b"1.0.0.0/8 1\n\n2.0.0.0/8 2", 3, 3, 3),
+    ("a report one byte short", b"1.0.0.0/8 1\n\n2.0.0.0/8 2", 3, 3, 2),
+    ("a report of length 0", b"\n", 1, 1, 0),
+    ("a report of length 0 for 0 bytes", b"", 1, 1, 0),
+]
+
+LIST_A = ["200.24.0.0/14 1", "200.26.0.0/15 2", "200.27.0.0/16 3", "200.27.64.0/18 1", "200.27.112.0/20 2", "200.27.128.0/20 1"]
+LIST_A += ["200.27.240.0/20 2"]
+RUNS_OF_A = """\
+0.0.0.0 0
+200.24.0.0 1
+200.26.0.0 2
+200.27.0.0 3
+200.27.64.0 1
+200.27.112.0 2
+200.27.128.0 1
+200.27.144.0 3
+200.27.240.0 2
+200.28.0.0 0
+""".splitlines()
+A_LESS = [row for row in LIST_A if row != "200.27.64.0/18 1"]
+SIBLINGS = ["10.0.0.0/8 1", "10.0.0.0/16 2", "10.2.0.0/16 2"]
+
+# Each run table: its name, the rows of its list, how many slots are lent, and document 01's count of runs, or None where it gives none.
+BUILDS = [
+    ("list A", LIST_A, 12, 10),
+    ("list A in as many slots as it has runs", LIST_A, 10, 10),
+    ("list A in one slot less", LIST_A, 9, 10),
+    ("A without 200.27.64.0/18", A_LESS, 10, 9),
+    ("A with 200.27.224.0/19 hop 1", LIST_A + ["200.27.224.0/19 1"], 12, 11),
+    ("A with 200.27.224.0/19 hop 3", LIST_A + ["200.27.224.0/19 3"], 12, 10),
+    ("the empty list", [], 2, 1),
+    ("the empty list in no slot", [], 0, 1),
+    ("only 255.255.255.255/32 hop 5", ["255.255.255.255/32 5"], 3, 2),
+    ("0.0.0.0/0 hop 4", ["0.0.0.0/0 4"], 2, None),
+    ("a route between two siblings of its hop, under a parent of another", SIBLINGS + ["10.1.0.0/16 2"], 5, None),
+    ("the same without it", SIBLINGS, 7, None),
+]
+
+
+def line(name, values):
+    print(" ".join([name] + [str(value) for value in values]))
+
+
+def show_import(name, feed, keys, hops, report):
+    """An import into slots that hold 9.9.9.9/32 for a key and 9 for a hop and a report byte."""
+    numbers, routes = import_feed(feed, min(keys, hops))
+    number, counts = 0, counts_of(numbers)
+    if report < len(numbers):
+        number, counts, numbers, routes = 12, [0] * 7, [], []
+    print("# Import:", name)
+    line("number", [number])
+    line("counts", counts)
+    line("report", numbers + [9] * (report - len(numbers)))
+    line("keys", [f"{dotted(network)}/{length}" for network, length, _ in routes] + ["9.9.9.9/32"] * (keys - len(routes)))
+    line("hops", [hop for _, _, hop in routes] + [9] * (hops - len(routes)))
+
+
+def show_build(name, rows, room, figure):
+    """A build into slots that hold 9.9.9.9 for a start and 9 for a hop."""
+    _, routes = import_feed("".join(row + "\n" for row in rows).encode(), len(rows))
+    runs = [f"{dotted(start)} {hop}" for start, hop in runs_of(routes)]
+    assert len(runs) == figure or figure is None
+    assert runs == RUNS_OF_A or rows != LIST_A
+    number = 0
+    if room < len(runs):
+        number, runs = 13, []
+    print("# Run table:", name)
+    line("number", [number])
+    line("runs", [len(runs)])
+    for slot in runs + ["9.9.9.9 9"] * (room - len(runs)):
+        print(slot)
+
+
+print(PLAIN_ANSWERS, end="")
+for case in IMPORTS:
+    show_import(*case)
+for case in BUILDS:
+    show_build(*case)
