@@ -1,8 +1,12 @@
--- How the stack of open prefixes goes with the address.
+-- How the stack of open prefixes goes with the address. Of two rows that hold one address the later is longer and lies in the earlier, so
+-- the stack is at most 33 deep and its ends fall. A row whose network is passed holds a later address exactly if it held this one and ends
+-- after that one; so closing what has ended leaves the stack true (`closing`), and before the next event nothing closes and nothing opens,
+-- so the answer stays (`answer-stays`). A row whose network is the address holds it (`opening`); once the next row's network is past it, all
+-- rows ahead are, and the last label is the answer over all rows (`standing-answer`).
 -- Assumes nothing.
 use mathlib.Core.Path.{_≡_, refl, sym, ap, _∙_}
 use mathlib.Core.Bool.{Bool, true, false}
-use mathlib.Core.Logic.{_⊎_, inl, inr, ⊎-elim}
+use mathlib.Core.Logic.{⊎-elim}
 use mathlib.Core.List.{List, [], _∷_, _++_, map, append-nil, map-append}
 use Prim.Native.Nat.{ℕ, zero, suc, _+_, _-_, _≤_, _<_}
 use native.Mathlib.Nat.{le-refl, le-antisymm, eq-or-lt-of-le, add-zero, add-suc}
@@ -14,9 +18,9 @@ use lib.Dec.{leb, ltb}
 use borrow.Author.Tests.{leb-true, leb-false, ltb-true, ltb-false, lt-ltb, le-ltb}
 use Rattle.ground.proofs.Truth.{never-both, decided, and-left, and-right}
 use Rattle.ground.specs.Column.{below, ascends}
-use Rattle.cidr.specs.Prefix.{network, lengthOf, size, isPrefix, holds}
+use Rattle.cidr.specs.Prefix.{network, lengthOf, isPrefix, holds}
 use Rattle.cidr.proofs.Prefix.{prefix-parts, within-holds, holds-from, holds-to, longer-later, ends-earlier, size-pos}
-use Rattle.routes.specs.Row.{Row, row, rowsOf, keysOf, hopsOf, every, keepRow, those}
+use Rattle.routes.specs.Row.{Row, row, rowsOf, keysOf, every, keepRow, those}
 use Rattle.routes.specs.WellFormed.{prefixes, ascending, halfRows}
 use Rattle.routes.specs.Plain.{matching}
 use Rattle.routes.proofs.Columns.{keys-of-rows}
@@ -101,7 +105,8 @@ data Matched (keys hops : List ℕ) (a : ℕ) : ℕ → List Row → Type 0 wher
   start : Matched keys hops a 0 []
   more : {i : ℕ} {m : List Row} → i < length keys → holds (getD keys i 0) a ≡ true → Matched keys hops a i m
       → Matched keys hops a (suc i) (m ++ (rowAt keys hops i ∷ []))
-  pass : {i : ℕ} {m : List Row} → i < length keys → holds (getD keys i 0) a ≡ false → Matched keys hops a i m → Matched keys hops a (suc i) m
+  pass : {i : ℕ} {m : List Row} → i < length keys → holds (getD keys i 0) a ≡ false → Matched keys hops a i m
+      → Matched keys hops a (suc i) m
 
 -- the ends fall, or stay, from each to the next
 abbrev Falls : List ℕ → Type 0
@@ -150,7 +155,8 @@ module _ {keys hops : List ℕ} (s : Sorted keys hops) where
   in-hops i l = omega (arith, s .paired)
 
   module _ (a i : ℕ) (l : i < length keys) where
-    grow-in : holds (getD keys i 0) a ≡ true → matching a (rowsOf (suc i) keys hops) ≡ matching a (rowsOf i keys hops) ++ (rowAt keys hops i ∷ [])
+    grow-in : holds (getD keys i 0) a ≡ true
+        → matching a (rowsOf (suc i) keys hops) ≡ matching a (rowsOf i keys hops) ++ (rowAt keys hops i ∷ [])
     unfolding matching
     grow-in e = rw (rows-suc i keys hops l (in-hops i l)) (those-one _ _ _ e)
 
@@ -205,7 +211,8 @@ module _ {keys hops : List ℕ} (s : Sorted keys hops) where
 
     ends-fall : {i : ℕ} {m : List Row} → Matched keys hops a i m → Falls (endsOf m)
     ends-fall start = λ i j l lt. absurd (omega arith)
-    ends-fall (more {i} {m} k q rest) = rw map-append (falls-snoc (endsOf m) (endOf (getD keys i 0)) (ends-fall rest) (end-above rest i (omega arith) k q))
+    ends-fall (more {i} {m} k q rest) =
+        rw map-append (falls-snoc (endsOf m) (endOf (getD keys i 0)) (ends-fall rest) (end-above rest i (omega arith) k q))
     ends-fall (pass k q rest) = ends-fall rest
 
   module _ (at b : ℕ) (le : at ≤ b) where
@@ -245,7 +252,8 @@ module _ {keys hops : List ℕ} (s : Sorted keys hops) where
       ∙ none-ahead a row d (omega arith) h)
 
   -- the network of a listed row is at most those of the rows after it
-  pub beyond : (b row : ℕ) → (row < length keys → b ≤ network (getD keys row 0)) → (i : ℕ) → row ≤ i → i < length keys → b ≤ network (getD keys i 0)
+  pub beyond : (b row : ℕ) → (row < length keys → b ≤ network (getD keys row 0))
+      → (i : ℕ) → row ≤ i → i < length keys → b ≤ network (getD keys i 0)
   beyond b row h i l lt = ⊎-elim
       (λ (q : row ≡ i). rw q at (h (omega arith)))
       (λ m. omega (arith, h (omega arith), climbs s row i m lt))
@@ -309,7 +317,7 @@ module _ {keys hops ends labels : List ℕ} {row depth at next : ℕ} (s : Sorte
       ∙ none-ahead s at row (length keys - row) (omega arith) (λ i l m. omega (arith, k .ahead i l m)) in
       rw (all, k .labels-are)
 
-  pub onward : (b : ℕ) → ((i : ℕ) → row ≤ i → i < length keys → b ≤ network (getD keys i 0)) → Stack keys hops ends labels row depth at b
+  onward : (b : ℕ) → ((i : ℕ) → row ≤ i → i < length keys → b ≤ network (getD keys i 0)) → Stack keys hops ends labels row depth at b
   onward b h = record {
     within = k .within;
     passed = k .passed;
@@ -324,7 +332,7 @@ module _ {keys hops ends labels : List ℕ} {row depth at next : ℕ} (s : Sorte
 module _ {keys hops ends labels : List ℕ} {row depth at next : ℕ} (s : Sorted keys hops)
     (k : Stack keys hops ends labels row depth at next) where
   -- up to the next event nothing closes, so the answer stays
-  pub answer-stays : (base limit b : ℕ) → Event keys ends row depth at limit b → (a : ℕ) → at ≤ a → a < b
+  answer-stays : (base limit b : ℕ) → Event keys ends row depth at limit b → (a : ℕ) → at ≤ a → a < b
       → answer base (allRows keys hops) a ≡ lastOr base (take depth labels)
   answer-stays base limit b e a l lt = standing-answer s (onward s still b (beyond s b row (e .row-to))) base lt
     where
@@ -411,7 +419,9 @@ pub top-is : (base depth : ℕ) (labels : List ℕ) → 0 < depth → depth ≤ 
     → getD labels (depth - 1) 0 ≡ lastOr base (take depth labels)
 top-is base depth labels pos l =
     let one : depth ≡ suc (depth - 1) = omega arith in
-    sym (ap (λ n. lastOr base (take n labels)) one ∙ rw (take-suc labels (depth - 1) 0 (omega arith)) (last-snoc base (take (depth - 1) labels) _))
+    sym
+    (ap (λ n. lastOr base (take n labels)) one
+    ∙ rw (take-suc labels (depth - 1) 0 (omega arith)) (last-snoc base (take (depth - 1) labels) _))
 
 pub top-none : (base depth : ℕ) (labels : List ℕ) → depth ≤ 0 → base ≡ lastOr base (take depth labels)
 unfolding lastOr

@@ -9,7 +9,7 @@ use Prim.Native.Nat.{ℕ, zero, suc, _+_, _-_, _≤_, _<_}
 use native.Mathlib.Nat.{zero-add}
 use native.Mathlib.Numerals.{add-one}
 use native.Mathlib.Omega.{arith}
-use lib.ListN.{length, getD, take, drop, set, length-append, length-map, length-set}
+use lib.ListN.{length, getD, take, set, length-append, length-map, length-set}
 use lib.Seq.{take-suc, take-all, length-take-le, drop-cons, set-at}
 use lib.Dec.{eqb}
 use borrow.Author.Tests.{eqb-true, eqb-false, eq-eqb}
@@ -49,7 +49,7 @@ module _ (f : ℕ → ℕ) (at b : ℕ) (past : at < b) (stays : (a : ℕ) → a
       none-between = picked-empty (turns f) (suc at) (b - suc at)
           (λ a l m. stays-of-same f a (omega arith) (stays a (omega arith) (omega arith) ∙ sym (stays (a - 1) (omega arith) (omega arith))))
 
-  pub counted-turn : turns f at ≡ true → counted (turns f) 0 b ≡ counted (turns f) 0 at + 1
+  counted-turn : turns f at ≡ true → counted (turns f) 0 b ≡ counted (turns f) 0 at + 1
   counted-turn e = simp counted-is (rw (picked-turn e, length-append))
 
 -- The sweep at a turn of the rows' answer, or at the limit.
@@ -119,7 +119,8 @@ writing-start {f} e l m = rw e record {
   };
 }
 
-pub writing-few : {f : ℕ → ℕ} {limit at n : ℕ} {starts₀ rhops₀ starts rhops : List ℕ} → Writing f limit at n starts₀ rhops₀ starts rhops → n ≤ at
+pub writing-few : {f : ℕ → ℕ} {limit at n : ℕ} {starts₀ rhops₀ starts rhops : List ℕ}
+    → Writing f limit at n starts₀ rhops₀ starts rhops → n ≤ at
 writing-few {f} {at = at} w = omega (arith, w .written-so-far .count, counted-at-most (turns f) at)
 
 module _ {f : ℕ → ℕ} {limit at n : ℕ} {starts₀ rhops₀ starts rhops : List ℕ} (w : Writing f limit at n starts₀ rhops₀ starts rhops)
@@ -148,16 +149,22 @@ module _ {f : ℕ → ℕ} {limit at n : ℕ} {starts₀ rhops₀ starts rhops :
     written-so-far = record {
       count = rw (w .written-so-far .count) (sym (counted-turn f at at′ past stays turn));
       starts-are =
-          rw (w .written-so-far .starts-are, so-far, written-more (picked (turns f) 0 at) starts₀ at (omega (arith, so-far, one-more, w .room)))
+          rw (w .written-so-far .starts-are, so-far, written-more before-it starts₀ at (omega (arith, so-far, one-more, w .room)))
           (rw (picked-turn f at at′ past stays turn));
       hops-are =
-          rw (w .written-so-far .hops-are, e, hops-so-far, written-more (map f (picked (turns f) 0 at)) rhops₀ (f at) (rw length-map (omega (arith, so-far, one-more, w .hop-room))))
+          rw (w .written-so-far .hops-are, e, hops-so-far, written-more (map f before-it) rhops₀ (f at) hop-below)
           (rw (picked-turn f at at′ past stays turn, map-append));
     };
   }
     where
+      before-it : List ℕ
+      before-it = picked (turns f) 0 at
+
       hops-so-far : n ≡ length (map f (picked (turns f) 0 at))
       hops-so-far = so-far ∙ sym (length-map (picked (turns f) 0 at) f)
+
+      hop-below : length (map f (picked (turns f) 0 at)) < length rhops₀
+      hop-below = omega (arith, hops-so-far, one-more, w .hop-room)
 
 -- Comparing: what was passed of the slices are the runs before the place.
 same-is : (xs ys : List ℕ) → same xs ys ≡ true → xs ≡ ys
@@ -179,7 +186,8 @@ module _ (f : ℕ → ℕ) (limit : ℕ) (starts rhops : List ℕ) where
   are-parts : areRuns f limit starts rhops ≡ true → (starts ≡ picked (turns f) 0 limit) × (rhops ≡ map f (picked (turns f) 0 limit))
   unfolding areRuns
   are-parts e =
-      (same-is _ _ (and-left (same starts (picked (turns f) 0 limit)) _ e), same-is _ _ (and-right (same starts (picked (turns f) 0 limit)) _ e))
+      let starts-same = same starts (picked (turns f) 0 limit) in
+      (same-is _ _ (and-left starts-same _ e), same-is _ _ (and-right starts-same _ e))
 
   are-not : ((starts ≡ picked (turns f) 0 limit) × (rhops ≡ map f (picked (turns f) 0 limit)) → ⊥) → areRuns f limit starts rhops ≡ false
   are-not h = ⊎-elim (λ e. absurd (h (are-parts e))) (λ e. e) (decided (areRuns f limit starts rhops))

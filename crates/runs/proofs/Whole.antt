@@ -14,9 +14,9 @@ use Rattle.ground.proofs.Truth.{and-left, and-right}
 use Rattle.ground.specs.Numbers.{firstFault, ifDone, done, illFormed, notItsRuns}
 use Rattle.ground.specs.Stretch.{picked, counted, turns}
 use Rattle.ground.specs.Stretch.Count.{counted-is}
-use Rattle.cidr.specs.Prefix.{holds, addresses}
+use Rattle.cidr.specs.Prefix.{holds}
 use Rattle.routes.specs.Row.{Row, row, rowsOf, hopsOf, listRoom, those}
-use Rattle.routes.specs.WellFormed.{hopsGiven, halfRows, goodRows, wellFormed, formed}
+use Rattle.routes.specs.WellFormed.{hopsGiven, goodRows, wellFormed, formed}
 use Rattle.routes.specs.Plain.{matching, plain}
 use Rattle.routes.proofs.Columns.{length-rows}
 use Rattle.routes.proofs.LastMatch.{lastHop, plain-last}
@@ -43,22 +43,23 @@ last-is a h (r ∷ rs) = go (holds (r .key) a) refl (λ h′. last-is a h′ rs)
     go false e rec = rw e (rec h)
 
 module _ {keys hops : List ℕ} (s : Sorted keys hops) where
-  pub answer-plain : answer 0 (allRows keys hops) ≡ plain (allRows keys hops)
+  answer-plain : answer 0 (allRows keys hops) ≡ plain (allRows keys hops)
   unfolding answer
   answer-plain = fun-ext (λ a. sym (plain-last a (allRows keys hops) (in-order s) ∙ last-is a 0 (allRows keys hops)))
 
-  pub whole-starts : picked (turns (answer 0 (allRows keys hops))) 0 4294967296 ≡ runStarts (allRows keys hops)
+  whole-starts : picked (turns (answer 0 (allRows keys hops))) 0 4294967296 ≡ runStarts (allRows keys hops)
   unfolding runStarts
   whole-starts = rw answer-plain (sym (starts-are (plain (allRows keys hops))))
 
-  pub whole-hops : map (answer 0 (allRows keys hops)) (picked (turns (answer 0 (allRows keys hops))) 0 4294967296) ≡ runHops (allRows keys hops)
+  whole-hops : map (answer 0 (allRows keys hops)) (picked (turns (answer 0 (allRows keys hops))) 0 4294967296)
+      ≡ runHops (allRows keys hops)
   unfolding runHops runHopsOf
   whole-hops = rw answer-plain (rw (sym (starts-are (plain (allRows keys hops)))))
 
-  pub whole-count : counted (turns (answer 0 (allRows keys hops))) 0 4294967296 ≡ length (runStarts (allRows keys hops))
+  whole-count : counted (turns (answer 0 (allRows keys hops))) 0 4294967296 ≡ length (runStarts (allRows keys hops))
   whole-count = counted-is (turns (answer 0 (allRows keys hops))) 0 4294967296 ∙ ap length whole-starts
 
-  pub at-most-twice : length (runStarts (allRows keys hops)) ≤ 2 * length keys + 1
+  at-most-twice : length (runStarts (allRows keys hops)) ≤ 2 * length keys + 1
   at-most-twice =
       let rows : length (allRows keys hops) ≡ length keys = length-rows (length keys) keys hops (omega arith) (omega (arith, s .paired)) in
       rw rows at (runs-at-most (allRows keys hops))

@@ -1,6 +1,5 @@
 -- `cidr::end_of` meets its contract: 1 shifted by the host bits is the prefix's size, and the sum fits, since a network is below 2^58.
 -- Assumes nothing.
-use mathlib.Core.Path.{_≡_}
 use borrow.Author.Needs.{needs}
 use Rattle.cidr.proofs.end_of.Statement.{statement}
 use Rattle.cidr.proofs.end_of.Tie as tie

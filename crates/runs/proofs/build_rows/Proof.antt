@@ -51,7 +51,11 @@ same-length-4 : tie.Need-same-length-4
 same-length-4 c = search needs
 
 returns-2 : tie.Need-returns-2
-returns-2 c = rows-runs (c .before .before .before .before .before .before .before .before .before .before .before .before .before .before .before .before .pre) _ _ (enough (c .before .before .before .before .before .before .before)) (c .before .before .before .before .write-runs .ensures)
+returns-2 c =
+    let written = c .before .before .before .before in
+    let fits = written .before .before .before in
+    let start = fits .before .before .before .before .before .before .before .before .before in
+    rows-runs (start .pre) _ _ (enough fits) (written .write-runs .ensures)
 
 pub build-rows-spec : {M : Type 1} → statement M
 build-rows-spec =

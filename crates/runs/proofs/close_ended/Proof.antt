@@ -1,5 +1,5 @@
--- `runs::close_ended` meets its contract. The loop keeps true that the ends from d on are at most b; it stops at an end above b, and then the
--- ends before it are above b too, since they fall.
+-- `runs::close_ended` meets its contract. The loop keeps true that the ends from d on are at most b; it stops at an end above b, and then
+-- the ends before it are above b too, since they fall.
 -- Assumes nothing.
 use Prim.Native.Nat.{ℕ, _-_, _≤_, _<_}
 use native.Mathlib.Omega.{arith}

@@ -6,7 +6,6 @@ use native.Mathlib.Omega.{arith}
 use denote.Ref.{now}
 use Rattle.ground.specs.Stretch.{counted, turns}
 use Rattle.runs.specs.Sweep.{allRows, answer}
-use Rattle.runs.proofs.Sweep.{standing-start}
 use Rattle.runs.proofs.Turning.{counted-at-most, counted-nothing}
 use Rattle.runs.proofs.Turning.{Sweeping, sweeping-start, sweeping-asks, sweeping-on, sweeping-counted}
 use Rattle.runs.proofs.count_runs.Statement.{statement}
@@ -21,12 +20,12 @@ Inv-loop keys hops base limit ends₀ labels₀ s₀ n₀ ends labels s n =
 abbrev μ-loop : tie.MeasureT-loop
 μ-loop keys hops base limit ends₀ labels₀ s₀ n₀ ends labels s n = limit - s .at
 
-open-here-requires : tie.Need-open-here-requires Inv-loop μ-loop
-open-here-requires c κs = (c .before .before .before .before .pre .0, standing-start refl refl)
+begin-requires : tie.Need-begin-requires Inv-loop μ-loop
+begin-requires c κs = (c .before .before .before .before .pre .0, refl, refl)
 
 loop-holds : tie.Need-loop-holds Inv-loop μ-loop
 loop-holds c =
-    let o = c .open-here .ensures in
+    let o = c .begin .ensures in
     let pre = c .before .before .before .before .before .pre in
     (sweeping-start _ _ (pre .0) (o .1) (o .0), counted-nothing _ _ (o .0), pre .1)
 
@@ -34,7 +33,8 @@ add-n : tie.Need-add-n Inv-loop μ-loop
 add-n c =
     let l = c .before .before .loop in
     let a = c .before .before .before .before .before .before .before .before .args in
-    omega (arith, counted-at-most (turns (answer (a .base) (allRows (now (a .keys)) (now (a .hops))))) (l .s .at), l .inv .1, l .inv .2, c .if1 .taken)
+    let few = counted-at-most (turns (answer (a .base) (allRows (now (a .keys)) (now (a .hops))))) (l .s .at) in
+    omega (arith, l .inv .1, l .inv .2, c .if1 .taken)
 
 next-turn-requires : tie.Need-next-turn-requires Inv-loop μ-loop
 next-turn-requires c κs = sweeping-asks (c .before .before .before .before .loop .inv .0) (c .before .before .if1 .taken)
@@ -51,9 +51,10 @@ loop-again c =
 
 returns : tie.Need-returns Inv-loop μ-loop
 returns c =
-    let inv = c .before .before .loop .inv in
-    let there : c .before .before .loop .s .at ≡ c .before .before .before .before .before .before .before .before .args .limit = omega (arith, inv .0 .upto, c .if1 .left) in
-    rw there at (inv .1)
+    let l = c .before .before .loop in
+    let start = c .before .before .before .before .before .before .before .before in
+    let there : l .s .at ≡ start .args .limit = omega (arith, l .inv .0 .upto, c .if1 .left) in
+    rw there at (l .inv .1)
 
 pub count-runs-spec : {M : Type 1} → statement M
 count-runs-spec =
@@ -61,7 +62,7 @@ count-runs-spec =
     (tie.spec
     Inv-loop
     μ-loop
-    open-here-requires
+    begin-requires
     loop-holds
     add-n
     next-turn-requires

@@ -1,5 +1,5 @@
--- `runs::next_turn` meets its contract. The loop keeps `Going` true: up to where it stands the answer is the one it started with. It ends at
--- the limit, or at an event where the answer is another.
+-- `runs::next_turn` meets its contract. The loop keeps `Going` true: up to where it stands the answer is the one it started with. It ends
+-- at the limit, or at an event where the answer is another.
 -- Assumes nothing.
 use Prim.Native.Nat.{_-_}
 use native.Mathlib.Omega.{arith}
@@ -42,18 +42,25 @@ top-hop-requires-2 c κs =
 
 returns-2 : tie.Need-returns-2 Inv-loop μ-loop
 returns-2 c =
-    going-turned (c .before .before .before .before .before .before .before .before .before .loop .inv) (c .before .before .before .before .before .before .before .next-event .ensures) (c .before .before .before .step .ensures .1) (c .before .before .before .step .ensures .0) (c .before .top-hop2 .ensures)
+    let moved = c .before .before .before in
+    let event = moved .before .before .before .before in
+    let g = event .before .before .loop .inv in
+    going-turned g (event .next-event .ensures) (moved .step .ensures .1) (moved .step .ensures .0) (c .before .top-hop2 .ensures)
     (c .if2 .taken)
 
 loop-less : tie.Need-loop-less Inv-loop μ-loop
 loop-less c =
-    let e = c .before .before .before .before .before .before .before .next-event .ensures in
-    omega (arith, e .past, c .before .before .before .before .before .before .if1 .left, c .before .before .before .step .ensures .0, c .before .before .before .before .before .before .before .before .before .loop .inv .before)
+    let moved = c .before .before .before in
+    let event = moved .before .before .before .before in
+    omega (arith, event .next-event .ensures .past, moved .before .before .before .if1 .left, moved .step .ensures .0)
 
 loop-again : tie.Need-loop-again Inv-loop μ-loop
 loop-again c =
-    going-on (c .before .before .before .before .before .before .before .before .before .loop .inv) (c .before .before .before .before .before .before .before .next-event .ensures) (c .before .before .before .step .ensures .1) (c .before .before .before .step .ensures .0) (c .before .top-hop2 .ensures)
-    (c .before .before .before .before .before .before .if1 .left) (c .if2 .left)
+    let moved = c .before .before .before in
+    let event = moved .before .before .before .before in
+    let g = event .before .before .loop .inv in
+    going-on g (event .next-event .ensures) (moved .step .ensures .1) (moved .step .ensures .0) (c .before .top-hop2 .ensures)
+    (moved .before .before .before .if1 .left) (c .if2 .left)
 
 pub next-turn-spec : {M : Type 1} → statement M
 next-turn-spec =

@@ -37,9 +37,8 @@ returns c =
     (refl, all-open (inv .0) (inv .1) (omega arith) (λ l e. c .if1 .taken (c .before .network .ensures ∙ e)))
 
 -- the row is at the address, so there is room above the stack
-here : (c : tie.Else1 Inv-loop μ-loop)
-    → network (getD (now (c .before .before .before .before .before .before .before .args .keys)) (c .before .before .before .before .loop .row) 0)
-    ≡ c .before .before .before .before .before .before .before .args .s .at
+here : (c : tie.Else1 Inv-loop μ-loop) → let turn = c .before .before .before .before in
+    network (getD (now (turn .before .before .before .args .keys)) (turn .loop .row) 0) ≡ turn .before .before .before .args .s .at
 here c = sym (c .before .network .ensures) ∙ c .if1 .left
 
 room : (c : tie.Else1 Inv-loop μ-loop) → c .before .before .before .before .loop .depth < 33

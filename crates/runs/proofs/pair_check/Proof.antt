@@ -1,5 +1,5 @@
--- `runs::pair_check` meets its contract: 11 where the list test fails or the count of runs is beyond the room, else 0 or 14 as the sweep over
--- the slices of the rows finds the runs.
+-- `runs::pair_check` meets its contract: 11 where the list test fails or the count of runs is beyond the room, else 0 or 14 as the sweep
+-- over the slices of the rows finds the runs.
 -- Assumes nothing.
 use mathlib.Core.Path.{_≡_, sym, _∙_}
 use mathlib.Core.Bool.{true}
@@ -20,10 +20,13 @@ list-ok-requires : tie.Need-list-ok-requires
 list-ok-requires c κs = search needs
 
 -- what the branches past the list test and past the room test know
-ok : (c : tie.Else1) → let a = c .before .before .before .before .before .before .args in wellFormed (a .count) (now (a .keys)) (now (a .hops)) ≡ true
+ok : (c : tie.Else1)
+    → let a = c .before .before .before .before .before .before .args in wellFormed (a .count) (now (a .keys)) (now (a .hops)) ≡ true
 ok c = list-test _ _ _ (c .before .list-ok .ensures) ∙ not-false _ (c .if1 .left)
 
-room : (c : tie.Else2) → let a = c .before .before .before .before .before .before .before .before .args in a .runs ≤ runRoom (now (a .starts)) (now (a .rhops))
+room : (c : tie.Else2)
+    → let a = c .before .before .before .before .before .before .before .before .args in
+    a .runs ≤ runRoom (now (a .starts)) (now (a .rhops))
 room c = rw (sym (c .before .run-room .ensures)) (c .if2 .left)
 
 returns : tie.Need-returns
@@ -48,7 +51,9 @@ slice-aggregate-same-runs-4 : tie.Need-slice-aggregate-same-runs-4
 slice-aggregate-same-runs-4 c = sym (length-take-le _ _ (in-rhops _ _ _ (room (c .before .before .before .before))))
 
 same-runs-requires : tie.Need-same-runs-requires
-same-runs-requires c κs = (slices-sorted _ _ _ (ok (c .before .before .before .before .before .before)), omega arith, runs-paired _ _ _ (room (c .before .before .before .before)))
+same-runs-requires c κs =
+    let within = c .before .before .before .before in
+    (slices-sorted _ _ _ (ok (within .before .before)), omega arith, runs-paired _ _ _ (room within))
 
 returns-3 : tie.Need-returns-3
 returns-3 c =

@@ -6,7 +6,6 @@ use Prim.Native.Nat.{_-_}
 use native.Mathlib.Omega.{arith}
 use borrow.Author.Needs.{needs}
 use Rattle.runs.specs.Sweep.{allRows, answer}
-use Rattle.runs.proofs.Sweep.{standing-start}
 use Rattle.runs.proofs.Turning.{Sweeping, sweeping-start, sweeping-asks, sweeping-top-asks, sweeping-top, sweeping-on}
 use Rattle.runs.proofs.Turning.{Comparing, comparing-start, too-few, other-start, other-hop, comparing-on, comparing-end}
 use Rattle.runs.proofs.same_runs.Statement.{statement}
@@ -20,12 +19,12 @@ Inv-loop keys hops base limit starts rhops ends₀ labels₀ s₀ n₀ ends labe
 abbrev μ-loop : tie.MeasureT-loop
 μ-loop keys hops base limit starts rhops ends₀ labels₀ s₀ n₀ ends labels s n = limit - s .at
 
-open-here-requires : tie.Need-open-here-requires Inv-loop μ-loop
-open-here-requires c κs = (c .before .before .before .before .before .before .pre .0, standing-start refl refl)
+begin-requires : tie.Need-begin-requires Inv-loop μ-loop
+begin-requires c κs = (c .before .before .before .before .before .before .pre .0, refl, refl)
 
 loop-holds : tie.Need-loop-holds Inv-loop μ-loop
 loop-holds c =
-    let o = c .open-here .ensures in
+    let o = c .begin .ensures in
     let pre = c .before .before .before .before .before .before .before .pre in
     (sweeping-start _ _ (pre .0) (o .1) (o .0), comparing-start (o .0) (pre .2))
 
@@ -57,7 +56,9 @@ shared-slice-read-if4 : tie.Need-shared-slice-read-if4 Inv-loop μ-loop
 shared-slice-read-if4 c = omega (arith, c .before .before .before .before .before .before .before .loop .inv .1 .paired)
 
 top-hop-requires : tie.Need-top-hop-requires Inv-loop μ-loop
-top-hop-requires c κs = sweeping-top-asks (c .before .before .before .before .before .before .before .before .loop .inv .0) (c .before .before .before .before .before .before .if1 .taken)
+top-hop-requires c κs =
+    let turn = c .before .before .before .before .before .before in
+    sweeping-top-asks (turn .before .before .loop .inv .0) (turn .if1 .taken)
 
 returns-3 : tie.Need-returns-3 Inv-loop μ-loop
 returns-3 c =
@@ -70,26 +71,33 @@ add-n : tie.Need-add-n Inv-loop μ-loop
 add-n c = search needs
 
 next-turn-requires : tie.Need-next-turn-requires Inv-loop μ-loop
-next-turn-requires c κs = sweeping-asks (c .before .before .before .before .before .before .before .before .before .before .before .before .loop .inv .0) (c .before .before .before .before .before .before .before .before .before .before .if1 .taken)
+next-turn-requires c κs =
+    let turn = c .before .before .before .before .before .before .before .before .before .before in
+    sweeping-asks (turn .before .before .loop .inv .0) (turn .if1 .taken)
 
 loop-less : tie.Need-loop-less Inv-loop μ-loop
 loop-less c = omega (arith, c .next-turn .ensures .past, c .next-turn .ensures .upto)
 
 loop-again : tie.Need-loop-again Inv-loop μ-loop
 loop-again c =
-    let inv = c .before .before .before .before .before .before .before .before .before .before .before .before .before .loop .inv in
-    let before = c .before .before .before .before .before .before .before .before .before .before .before .if1 .taken in
-    let t = c .next-turn .ensures in (
+    let hop-test = c .before .before .before in
+    let start-test = hop-test .before .before .before .before in
+    let turn = start-test .before .before .before .before in
+    let inv = turn .before .before .loop .inv in
+    let before = turn .if1 .taken in
+    let t = c .next-turn .ensures in
+    let hop = hop-test .if4 .left ∙ sweeping-top (inv .0) before (hop-test .before .top-hop .ensures) in (
       sweeping-on (inv .0) before t,
-      comparing-on (inv .1) (t .past) (t .stays) (inv .0 .turn before) (omega (arith, c .before .before .before .before .before .before .before .before .before .before .if2 .left)) (c .before .before .before .before .before .before .before .if3 .left)
-          (c .before .before .before .if4 .left ∙ sweeping-top (inv .0) before (c .before .before .before .before .top-hop .ensures)),
+      comparing-on (inv .1) (t .past) (t .stays) (inv .0 .turn before) (start-test .before .before .before .if2 .left) (start-test .if3 .left)
+          hop,
     )
 
 returns-4 : tie.Need-returns-4 Inv-loop μ-loop
 returns-4 c =
-    let inv = c .before .before .loop .inv in
-    let there : c .before .before .loop .s .at ≡ c .before .before .before .before .before .before .before .before .before .before .args .limit = omega (arith, inv .0 .upto, c .if1 .left) in
-    rw there at (comparing-end (inv .1))
+    let l = c .before .before .loop in
+    let start = c .before .before .before .before .before .before .before .before .before .before in
+    let there : l .s .at ≡ start .args .limit = omega (arith, l .inv .0 .upto, c .if1 .left) in
+    rw there at (comparing-end (l .inv .1))
 
 pub same-runs-spec : {M : Type 1} → statement M
 same-runs-spec =
@@ -97,7 +105,7 @@ same-runs-spec =
     (tie.spec
     Inv-loop
     μ-loop
-    open-here-requires
+    begin-requires
     loop-holds
     returns
     mul-if3

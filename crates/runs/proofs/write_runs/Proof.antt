@@ -4,7 +4,6 @@ use mathlib.Core.Path.{_≡_, refl}
 use Prim.Native.Nat.{_-_, _≤_}
 use native.Mathlib.Omega.{arith}
 use Rattle.runs.specs.Sweep.{allRows, answer}
-use Rattle.runs.proofs.Sweep.{standing-start}
 use Rattle.runs.proofs.Turning.{Sweeping, sweeping-start, sweeping-asks, sweeping-top-asks, sweeping-top, sweeping-on}
 use Rattle.runs.proofs.Turning.{Writing, writing-start, writing-few, start-fits, hop-fits, writing-on}
 use Rattle.runs.proofs.write_runs.Statement.{statement}
@@ -19,12 +18,12 @@ Inv-loop keys hops base limit starts₀ rhops₀ ends₀ labels₀ s₀ n₀ sta
 abbrev μ-loop : tie.MeasureT-loop
 μ-loop keys hops base limit starts₀ rhops₀ ends₀ labels₀ s₀ n₀ starts rhops ends labels s n = limit - s .at
 
-open-here-requires : tie.Need-open-here-requires Inv-loop μ-loop
-open-here-requires c κs = (c .before .before .before .before .before .before .pre .0, standing-start refl refl)
+begin-requires : tie.Need-begin-requires Inv-loop μ-loop
+begin-requires c κs = (c .before .before .before .before .before .before .pre .0, refl, refl)
 
 loop-holds : tie.Need-loop-holds Inv-loop μ-loop
 loop-holds c =
-    let o = c .open-here .ensures in
+    let o = c .begin .ensures in
     let pre = c .before .before .before .before .before .before .before .pre in
     (sweeping-start _ _ (pre .0) (o .1) (o .0), writing-start (o .0) (pre .2) (pre .3), pre .1)
 
@@ -32,7 +31,10 @@ cast-starts : tie.Need-cast-starts Inv-loop μ-loop
 cast-starts c = omega (arith, c .before .before .before .loop .inv .2, c .before .if1 .taken)
 
 mul-starts : tie.Need-mul-starts Inv-loop μ-loop
-mul-starts c = let inv = c .before .before .before .loop .inv in omega (arith, writing-few (inv .1), inv .2, c .before .if1 .taken)
+mul-starts c =
+    let turn = c .before in
+    let inv = turn .before .before .loop .inv in
+    omega (arith, writing-few (inv .1), inv .2, turn .if1 .taken)
 
 slice-write-starts : tie.Need-slice-write-starts Inv-loop μ-loop
 slice-write-starts c =
@@ -44,7 +46,10 @@ top-hop-requires : tie.Need-top-hop-requires Inv-loop μ-loop
 top-hop-requires c κs = sweeping-top-asks (c .before .before .before .before .loop .inv .0) (c .before .before .if1 .taken)
 
 mul-rhops : tie.Need-mul-rhops Inv-loop μ-loop
-mul-rhops c = let inv = c .before .before .before .before .before .loop .inv in omega (arith, writing-few (inv .1), inv .2, c .before .before .before .if1 .taken)
+mul-rhops c =
+    let turn = c .before .before .before in
+    let inv = turn .before .before .loop .inv in
+    omega (arith, writing-few (inv .1), inv .2, turn .if1 .taken)
 
 slice-write-rhops : tie.Need-slice-write-rhops Inv-loop μ-loop
 slice-write-rhops c =
@@ -53,23 +58,28 @@ slice-write-rhops c =
     hop-fits (inv .1) before (inv .0 .turn before)
 
 add-n : tie.Need-add-n Inv-loop μ-loop
-add-n c = let inv = c .before .before .before .before .before .loop .inv in omega (arith, writing-few (inv .1), inv .2, c .before .before .before .if1 .taken)
+add-n c =
+    let turn = c .before .before .before in
+    let inv = turn .before .before .loop .inv in
+    omega (arith, writing-few (inv .1), inv .2, turn .if1 .taken)
 
 next-turn-requires : tie.Need-next-turn-requires Inv-loop μ-loop
-next-turn-requires c κs = sweeping-asks (c .before .before .before .before .before .before .before .loop .inv .0) (c .before .before .before .before .before .if1 .taken)
+next-turn-requires c κs =
+    let turn = c .before .before .before .before .before in
+    sweeping-asks (turn .before .before .loop .inv .0) (turn .if1 .taken)
 
 loop-less : tie.Need-loop-less Inv-loop μ-loop
 loop-less c = omega (arith, c .next-turn .ensures .past, c .next-turn .ensures .upto)
 
 loop-again : tie.Need-loop-again Inv-loop μ-loop
 loop-again c =
-    let inv = c .before .before .before .before .before .before .before .before .loop .inv in
-    let before = c .before .before .before .before .before .before .if1 .taken in
-    let t = c .next-turn .ensures in (
-      sweeping-on (inv .0) before t,
-      writing-on (inv .1) before (inv .0 .turn before) (t .past) (t .stays) (sweeping-top (inv .0) before (c .before .before .before .top-hop .ensures)),
-      inv .2,
-    )
+    let top = c .before .before .before in
+    let turn = top .before .before .before in
+    let inv = turn .before .before .loop .inv in
+    let before = turn .if1 .taken in
+    let t = c .next-turn .ensures in
+    let hop = sweeping-top (inv .0) before (top .top-hop .ensures) in
+    (sweeping-on (inv .0) before t, writing-on (inv .1) before (inv .0 .turn before) (t .past) (t .stays) hop, inv .2)
 
 same-length : tie.Need-same-length Inv-loop μ-loop
 same-length c = c .before .before .loop .inv .1 .as-long
@@ -79,9 +89,10 @@ same-length-2 c = c .before .before .loop .inv .1 .hops-as-long
 
 returns : tie.Need-returns Inv-loop μ-loop
 returns c =
-    let inv = c .before .before .loop .inv in
-    let there : c .before .before .loop .s .at ≡ c .before .before .before .before .before .before .before .before .before .before .args .limit = omega (arith, inv .0 .upto, c .if1 .left) in
-    rw there at (inv .1 .written-so-far)
+    let l = c .before .before .loop in
+    let start = c .before .before .before .before .before .before .before .before .before .before in
+    let there : l .s .at ≡ start .args .limit = omega (arith, l .inv .0 .upto, c .if1 .left) in
+    rw there at (l .inv .1 .written-so-far)
 
 pub write-runs-spec : {M : Type 1} → statement M
 write-runs-spec =
@@ -89,7 +100,7 @@ write-runs-spec =
     (tie.spec
     Inv-loop
     μ-loop
-    open-here-requires
+    begin-requires
     loop-holds
     cast-starts
     mul-starts
