@@ -1,8 +1,8 @@
 -- How the stack of open prefixes goes with the address. Of two rows that hold one address the later is longer and lies in the earlier, so
 -- the stack is at most 33 deep and its ends fall. A row whose network is passed holds a later address exactly if it held this one and ends
 -- after that one; so closing what has ended leaves the stack true (`closing`), and before the next event nothing closes and nothing opens,
--- so the answer stays (`answer-stays`). A row whose network is the address holds it (`opening`); once the next row's network is past it, all
--- rows ahead are, and the last label is the answer over all rows (`standing-answer`).
+-- so the answer stays (`answer-stays`). A row whose network is the address holds it (`opening`); once the next row's network is past it,
+-- all rows ahead are, and the last label is the answer over all rows (`standing-answer`).
 -- Assumes nothing.
 use mathlib.Core.Path.{_≡_, refl, sym, ap, _∙_}
 use mathlib.Core.Bool.{Bool, true, false}

@@ -86,9 +86,10 @@ loop-again c =
     let inv = turn .before .before .loop .inv in
     let before = turn .if1 .taken in
     let t = c .next-turn .ensures in
+    let more = start-test .before .before .before .if2 .left in
     let hop = hop-test .if4 .left ∙ sweeping-top (inv .0) before (hop-test .before .top-hop .ensures) in (
       sweeping-on (inv .0) before t,
-      comparing-on (inv .1) (t .past) (t .stays) (inv .0 .turn before) (start-test .before .before .before .if2 .left) (start-test .if3 .left)
+      comparing-on (inv .1) (t .past) (t .stays) (inv .0 .turn before) more (start-test .if3 .left)
           hop,
     )
 
