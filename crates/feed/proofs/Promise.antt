@@ -1,0 +1,109 @@
+-- What an import promises its callers, from its contract alone. Where it is done: rows in = rows taken + rows refused, reason by reason;
+-- the rows are the feed's; and the list it leaves is well-formed and has exactly the taken rows. Where it is refused: the report is
+-- shorter than the number of rows, and all lent memory is as at entry.
+-- Assumes nothing.
+use mathlib.Core.Path.{_≡_, refl, sym, ap, _∙_}
+use mathlib.Core.Bool.{Bool, true, false, cond}
+use mathlib.Core.List.{List, []}
+use Prim.Native.Nat.{ℕ, _+_, _≤_, _<_, min}
+use native.Mathlib.Omega.{arith}
+use lib.Dec.{leb, ltb, eqb}
+use lib.ListN.{length, length-map}
+use borrow.Author.Tests.{le-leb, ltb-true}
+use Rattle.ground.specs.Numbers.{firstFault, reportShort}
+use Rattle.ground.specs.Slots.{written}
+use Rattle.ground.proofs.Truth.{and-both, cond-true, cond-false}
+use Rattle.routes.specs.Row.{Row, rowsOf, keysOf, hopsOf, listRoom}
+use Rattle.routes.specs.WellFormed.{wellFormed, goodRows}
+use Rattle.routes.proofs.Row.{Has}
+use Rattle.routes.proofs.WellFormed.{parts-good}
+use Rattle.routes.proofs.Columns.{rows-of-columns}
+use Rattle.feed.specs.declared.Counts.{Counts}
+use Rattle.feed.specs.declared.Imported.the-variants.{Done, ReportShort}
+use Rattle.feed.specs.Rows.{rowsIn}
+use Rattle.feed.specs.Import.{rowNumbers, imported, countsOf, importChecks, importNumber, importCounts, importReport, importKeys, importHops}
+use Rattle.feed.specs.Answers.{ImportedFrom}
+use Rattle.feed.proofs.Filling.{length-written}
+use Rattle.feed.proofs.Importing.{rows-taken-refused, numbers-of-rows, imported-good, imported-length, imported-in-room, TakenFrom, imported-is-taken, taken-is-imported}
+
+module _ {feed keys hops report keys′ hops′ report′ : List ℕ} {c : Counts}
+    (p : ImportedFrom feed keys hops report (Done c) keys′ hops′ report′) where
+  abbrev room : ℕ
+  room = listRoom keys hops
+
+  accepted : eqb (importNumber feed report) 0 ≡ true
+  accepted = ap (λ n. eqb n 0) (sym (p .number))
+
+  counts-are : c ≡ countsOf (rowNumbers room feed)
+  unfolding importCounts
+  counts-are = p .counts ∙ cond-true _ _ accepted
+
+  keys-are : keys′ ≡ written (keysOf (imported room feed)) keys
+  unfolding importKeys
+  keys-are = p .keys-left ∙ cond-true _ _ accepted
+
+  hops-are : hops′ ≡ written (hopsOf (imported room feed)) hops
+  unfolding importHops
+  hops-are = p .hops-left ∙ cond-true _ _ accepted
+
+  -- "rows in = rows taken + rows refused, reason by reason"
+  pub rows-are-taken-and-refused : c .rows ≡ c .taken + (c .shape + (c .range + (c .hostbits + (c .repeat + c .noroom))))
+  rows-are-taken-and-refused = rw counts-are (rows-taken-refused room feed)
+
+  -- every row of the feed is counted, and no other
+  pub rows-are-all-rows : c .rows ≡ length (rowsIn feed)
+  unfolding countsOf
+  rows-are-all-rows = ap (λ k. k .rows) counts-are ∙ numbers-of-rows room feed
+
+  taken-are : c .taken ≡ length (imported room feed)
+  taken-are = ap (λ k. k .taken) counts-are ∙ sym (imported-length room feed)
+
+  -- the list that is left
+  pub left-is-imported : rowsOf (c .taken) keys′ hops′ ≡ imported (listRoom keys hops) feed
+  unfolding written
+  left-is-imported = rw (taken-are, keys-are, hops-are) (rows-of-columns (imported room feed) _ _)
+
+  taken-in-room : c .taken ≤ room
+  taken-in-room = omega (arith, taken-are, imported-in-room room feed)
+
+  -- both slices are as long as they were, so the room is the same
+  same-room : listRoom keys′ hops′ ≡ room
+  unfolding listRoom
+  same-room =
+      let list = imported room feed in
+      let fits : length list ≤ min (min (length keys) (length hops)) 1048576 = imported-in-room room feed in
+      rw (keys-are, hops-are, length-written (keysOf list) keys (simp length-map (omega arith)), length-written (hopsOf list) hops (simp length-map (omega arith)))
+
+  pub left-well-formed : wellFormed (c .taken) keys′ hops′ ≡ true
+  unfolding wellFormed
+  left-well-formed =
+      and-both (ap (leb (c .taken)) same-room ∙ le-leb (c .taken) room taken-in-room) (ap goodRows left-is-imported ∙ parts-good _ (imported-good room feed))
+
+  -- the list has exactly the rows of the feed that were taken, each with its prefix and hop
+  pub left-is-taken : (r : Row) → Has r (rowsOf (c .taken) keys′ hops′) → TakenFrom (listRoom keys hops) [] (rowsIn feed) r
+  left-is-taken r m = imported-is-taken room feed r (rw left-is-imported at m)
+
+  pub taken-is-left : (r : Row) → TakenFrom (listRoom keys hops) [] (rowsIn feed) r → Has r (rowsOf (c .taken) keys′ hops′)
+  taken-is-left r t = rw left-is-imported (taken-is-imported room feed r t)
+
+module _ {feed keys hops report keys′ hops′ report′ : List ℕ} (p : ImportedFrom feed keys hops report ReportShort keys′ hops′ report′) where
+  -- 12 is given only where the report is shorter than the number of rows
+  pub report-is-short : length report < length (rowsIn feed)
+  unfolding importNumber importChecks firstFault
+  report-is-short = ltb-true _ _ (go (ltb (length report) (length (rowsIn feed))) (p .number))
+    where
+      go : (b : Bool) → reportShort ≡ cond b reportShort 0 → b ≡ true
+      go true e = refl
+      go false e = absurd (omega arith)
+
+  refused : eqb (importNumber feed report) 0 ≡ false
+  refused = ap (λ n. eqb n 0) (sym (p .number))
+
+  -- all lent memory is as at entry
+  pub all-as-at-entry : (keys′ ≡ keys) × (hops′ ≡ hops) × (report′ ≡ report)
+  unfolding importKeys importHops importReport
+  all-as-at-entry = (
+    p .keys-left ∙ cond-false _ _ refused,
+    p .hops-left ∙ cond-false _ _ refused,
+    p .report-left ∙ cond-false _ _ refused,
+  )
