@@ -21,10 +21,12 @@ use Rattle.routes.proofs.Columns.{rows-of-columns}
 use Rattle.feed.specs.declared.Counts.{Counts}
 use Rattle.feed.specs.declared.Imported.the-variants.{Done, ReportShort}
 use Rattle.feed.specs.Rows.{rowsIn}
-use Rattle.feed.specs.Import.{rowNumbers, imported, countsOf, importChecks, importNumber, importCounts, importReport, importKeys, importHops}
+use Rattle.feed.specs.Import.{rowNumbers, imported, countsOf}
+use Rattle.feed.specs.Import.{importChecks, importNumber, importCounts, importReport, importKeys, importHops}
 use Rattle.feed.specs.Answers.{ImportedFrom}
 use Rattle.feed.proofs.Filling.{length-written}
-use Rattle.feed.proofs.Importing.{rows-taken-refused, numbers-of-rows, imported-good, imported-length, imported-in-room, TakenFrom, imported-is-taken, taken-is-imported}
+use Rattle.feed.proofs.Importing.{rows-taken-refused, numbers-of-rows, imported-good, imported-length, imported-in-room}
+use Rattle.feed.proofs.Importing.{TakenFrom, imported-is-taken, taken-is-imported}
 
 module _ {feed keys hops report keys′ hops′ report′ : List ℕ} {c : Counts}
     (p : ImportedFrom feed keys hops report (Done c) keys′ hops′ report′) where
@@ -72,12 +74,18 @@ module _ {feed keys hops report keys′ hops′ report′ : List ℕ} {c : Count
   same-room =
       let list = imported room feed in
       let fits : length list ≤ min (min (length keys) (length hops)) 1048576 = imported-in-room room feed in
-      rw (keys-are, hops-are, length-written (keysOf list) keys (simp length-map (omega arith)), length-written (hopsOf list) hops (simp length-map (omega arith)))
+      rw (
+        keys-are,
+        hops-are,
+        length-written (keysOf list) keys (simp length-map (omega arith)),
+        length-written (hopsOf list) hops (simp length-map (omega arith)),
+      )
 
   pub left-well-formed : wellFormed (c .taken) keys′ hops′ ≡ true
   unfolding wellFormed
   left-well-formed =
-      and-both (ap (leb (c .taken)) same-room ∙ le-leb (c .taken) room taken-in-room) (ap goodRows left-is-imported ∙ parts-good _ (imported-good room feed))
+      and-both (ap (leb (c .taken)) same-room ∙ le-leb (c .taken) room taken-in-room)
+      (ap goodRows left-is-imported ∙ parts-good _ (imported-good room feed))
 
   -- the list has exactly the rows of the feed that were taken, each with its prefix and hop
   pub left-is-taken : (r : Row) → Has r (rowsOf (c .taken) keys′ hops′) → TakenFrom (listRoom keys hops) [] (rowsIn feed) r
