@@ -1,6 +1,6 @@
 -- What an import promises its callers, from its contract alone. Where it is done: rows in = rows taken + rows refused, reason by reason;
--- the rows are the feed's; and the list it leaves is well-formed and has exactly the taken rows. Where it is refused: the report is
--- shorter than the number of rows, and all lent memory is as at entry.
+-- the rows are the feed's; the list it leaves is well-formed and has exactly the taken rows; the report has the rows' numbers; and what
+-- lies past these is unchanged. Where it is refused: the report is shorter than the number of rows, and all lent memory is as at entry.
 -- Assumes nothing.
 use mathlib.Core.Path.{_≡_, refl, sym, ap, _∙_}
 use mathlib.Core.Bool.{Bool, true, false, cond}
@@ -8,7 +8,8 @@ use mathlib.Core.List.{List, []}
 use Prim.Native.Nat.{ℕ, _+_, _≤_, _<_, min}
 use native.Mathlib.Omega.{arith}
 use lib.Dec.{leb, ltb, eqb}
-use lib.ListN.{length, length-map}
+use lib.ListN.{length, take, drop, length-map}
+use lib.Seq.{take-at, drop-at}
 use borrow.Author.Tests.{le-leb, ltb-true}
 use Rattle.ground.specs.Numbers.{firstFault, reportShort}
 use Rattle.ground.specs.Slots.{written}
@@ -27,6 +28,11 @@ use Rattle.feed.specs.Answers.{ImportedFrom}
 use Rattle.feed.proofs.Filling.{length-written}
 use Rattle.feed.proofs.Importing.{rows-taken-refused, numbers-of-rows, imported-good, imported-length, imported-in-room}
 use Rattle.feed.proofs.Importing.{TakenFrom, imported-is-taken, taken-is-imported}
+
+-- past what is written a slice is as it was
+past : (new old : List ℕ) (n : ℕ) → n ≡ length new → drop n (written new old) ≡ drop n old
+unfolding written
+past new old n e = drop-at new _ n (sym e) ∙ ap (λ k. drop k old) (sym e)
 
 module _ {feed keys hops report keys′ hops′ report′ : List ℕ} {c : Counts}
     (p : ImportedFrom feed keys hops report (Done c) keys′ hops′ report′) where
@@ -48,14 +54,21 @@ module _ {feed keys hops report keys′ hops′ report′ : List ℕ} {c : Count
   unfolding importHops
   hops-are = p .hops-left ∙ cond-true _ _ accepted
 
+  report-is : report′ ≡ written (rowNumbers room feed) report
+  unfolding importReport
+  report-is = p .report-left ∙ cond-true _ _ accepted
+
   -- "rows in = rows taken + rows refused, reason by reason"
   pub rows-are-taken-and-refused : c .rows ≡ c .taken + (c .shape + (c .range + (c .hostbits + (c .repeat + c .noroom))))
   rows-are-taken-and-refused = rw counts-are (rows-taken-refused room feed)
 
+  numbers-are : c .rows ≡ length (rowNumbers room feed)
+  unfolding countsOf
+  numbers-are = ap (λ k. k .rows) counts-are
+
   -- every row of the feed is counted, and no other
   pub rows-are-all-rows : c .rows ≡ length (rowsIn feed)
-  unfolding countsOf
-  rows-are-all-rows = ap (λ k. k .rows) counts-are ∙ numbers-of-rows room feed
+  rows-are-all-rows = numbers-are ∙ numbers-of-rows room feed
 
   taken-are : c .taken ≡ length (imported room feed)
   taken-are = ap (λ k. k .taken) counts-are ∙ sym (imported-length room feed)
@@ -93,6 +106,20 @@ module _ {feed keys hops report keys′ hops′ report′ : List ℕ} {c : Count
 
   pub taken-is-left : (r : Row) → TakenFrom (listRoom keys hops) [] (rowsIn feed) r → Has r (rowsOf (c .taken) keys′ hops′)
   taken-is-left r t = rw left-is-imported (taken-is-imported room feed r t)
+
+  -- the report has each row's number; bytes past the rows and slots past the taken count stay unchanged
+  pub report-has-numbers : take (c .rows) report′ ≡ rowNumbers (listRoom keys hops) feed
+  unfolding written
+  report-has-numbers = ap (take (c .rows)) report-is ∙ take-at (rowNumbers room feed) _ (c .rows) (sym numbers-are)
+
+  pub report-past-rows : drop (c .rows) report′ ≡ drop (c .rows) report
+  report-past-rows = rw report-is (past (rowNumbers room feed) report (c .rows) numbers-are)
+
+  pub keys-past-taken : drop (c .taken) keys′ ≡ drop (c .taken) keys
+  keys-past-taken = rw keys-are (past (keysOf (imported room feed)) keys (c .taken) (simp length-map taken-are))
+
+  pub hops-past-taken : drop (c .taken) hops′ ≡ drop (c .taken) hops
+  hops-past-taken = rw hops-are (past (hopsOf (imported room feed)) hops (c .taken) (simp length-map taken-are))
 
 module _ {feed keys hops report keys′ hops′ report′ : List ℕ} (p : ImportedFrom feed keys hops report ReportShort keys′ hops′ report′) where
   -- 12 is given only where the report is shorter than the number of rows
