@@ -52,12 +52,26 @@ module _ (v : Values) where
             pub out-no-hop : v .hop ≡ 0 → false ≡ not (outOfRange v)
             unfolding outOfRange
             out-no-hop h =
-                rw (le-ltb 255 (v .a) a, le-ltb 255 (v .b) b, le-ltb 255 (v .c) c, le-ltb 255 (v .d) d, le-ltb 32 (v .len) len, eq-eqb (v .hop) 0 h)
+                rw (
+                  le-ltb 255 (v .a) a,
+                  le-ltb 255 (v .b) b,
+                  le-ltb 255 (v .c) c,
+                  le-ltb 255 (v .d) d,
+                  le-ltb 32 (v .len) len,
+                  eq-eqb (v .hop) 0 h,
+                )
 
             pub out-hop : (v .hop ≡ 0 → ⊥) → leb (v .hop) 65535 ≡ not (outOfRange v)
             unfolding outOfRange
             out-hop h =
-                rw (le-ltb 255 (v .a) a, le-ltb 255 (v .b) b, le-ltb 255 (v .c) c, le-ltb 255 (v .d) d, le-ltb 32 (v .len) len, ne-eqb (v .hop) 0 h)
+                rw (
+                  le-ltb 255 (v .a) a,
+                  le-ltb 255 (v .b) b,
+                  le-ltb 255 (v .c) c,
+                  le-ltb 255 (v .d) d,
+                  le-ltb 32 (v .len) len,
+                  ne-eqb (v .hop) 0 h,
+                )
                 (at-most-not-above (v .hop) 65535)
 
 no-bits : (v : Values) → hostBits (v .len) (addressOf v) ≡ 0 → hasHostBits v ≡ false
@@ -81,13 +95,17 @@ module _ (v : Values) where
 
     -- in range, the key is a prefix exactly where no host bit is set
     host-bits-no-prefix : hasHostBits v ≡ true → isPrefix (keyOf (addressOf v) (v .len)) ≡ false
-    host-bits-no-prefix f = ⊎-elim (λ p. never-both f (none-set (prefix-parts _ p))) (λ p. p) (decided (isPrefix (keyOf (addressOf v) (v .len))))
+    host-bits-no-prefix f =
+        ⊎-elim (λ p. never-both f (none-set (prefix-parts _ p))) (λ p. p) (decided (isPrefix (keyOf (addressOf v) (v .len))))
       where
         small : v .len < 64
         small = omega (arith, in-range v e .len)
 
         none-set : Prefix (keyOf (addressOf v) (v .len)) → hasHostBits v ≡ false
-        none-set p = no-bits v (subst (λ x. hostBits x (addressOf v) ≡ 0) (length-key (addressOf v) (v .len) small) (subst (λ x. hostBits (lengthOf (keyOf (addressOf v) (v .len))) x ≡ 0) (network-key (addressOf v) (v .len) small) (p .aligned)))
+        none-set p =
+            no-bits v
+            (subst (λ x. hostBits x (addressOf v) ≡ 0) (length-key (addressOf v) (v .len) small)
+            (subst (λ x. hostBits (lengthOf (keyOf (addressOf v) (v .len))) x ≡ 0) (network-key (addressOf v) (v .len) small) (p .aligned)))
 
     pub reads-no-prefix : isPrefix (keyOf (addressOf v) (v .len)) ≡ false → bad rowHostBits ≡ judgedValues v
     reads-no-prefix p = ⊎-elim reads-host-bits (λ f. never-both (good-prefix v (in-range v e) f) p) (decided (hasHostBits v))

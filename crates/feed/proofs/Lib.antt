@@ -6,3 +6,5 @@ mod RowParse
 pub mod Splitting
 mod Taking
 mod Filling
+pub mod Settled
+pub mod Promise

@@ -13,7 +13,8 @@ use Rattle.ground.proofs.Truth.{or-neither, not-false}
 use Rattle.cidr.specs.Prefix.{addresses, keyOf, network, lengthOf, hostBits, isPrefix}
 use Rattle.cidr.proofs.Prefix.{parts-prefix, network-key, length-key}
 use Rattle.feed.specs.declared.Values.{Values}
-use Rattle.feed.specs.Reading.{Reading, good, bad, addressOf, outOfRange, hasHostBits, valueFault, judgedValues, valuesOf, judged, readRow, fieldsOf, form}
+use Rattle.feed.specs.Reading.{Reading, good, bad, addressOf, outOfRange, hasHostBits, valueFault, judgedValues}
+use Rattle.feed.specs.Reading.{valuesOf, judged, readRow, fieldsOf, form}
 
 -- the numbers of a row are in range
 pub record InRange (v : Values) : Type 0 where
@@ -97,7 +98,8 @@ judged-sound : (v : Values) → Sound (judgedValues v)
 unfolding judgedValues valueFault firstFault
 judged-sound v = go (outOfRange v) (hasHostBits v) refl refl
   where
-    go : (b c : Bool) → outOfRange v ≡ b → hasHostBits v ≡ c → Sound (cond (eqb (cond b 2 (cond c 3 0)) 0) (good (keyOf (addressOf v) (v .len)) (v .hop)) (bad (cond b 2 (cond c 3 0))))
+    go : (b c : Bool) → outOfRange v ≡ b → hasHostBits v ≡ c
+        → Sound (cond (eqb (cond b 2 (cond c 3 0)) 0) (good (keyOf (addressOf v) (v .len)) (v .hop)) (bad (cond b 2 (cond c 3 0))))
     go true c e f = (lit≤ tt, lit≤ tt)
     go false true e f = (lit≤ tt, lit≤ tt)
     go false false e f = (good-prefix v (in-range v e) f, in-range v e .hop-given, in-range v e .hop-fits)

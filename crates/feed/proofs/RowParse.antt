@@ -18,16 +18,26 @@ use Rattle.feed.specs.declared.Values.{Values}
 use Rattle.feed.specs.declared.Digits.{Digits}
 use Rattle.feed.specs.declared.Field.{Field}
 use Rattle.feed.specs.declared.Field.the-variants.{Read, Unlike}
-use Rattle.feed.specs.Reading.{bad, rowShape, isDigit, digits, afterDigits, isNumber, begins, isEnd, before, Field as Part, field, form, fieldsOf, valueFrom, inPlaces, judgedValues, valuesOf, judged, readRow}
+use Rattle.feed.specs.Reading.{bad, rowShape, isDigit, digits, afterDigits, isNumber, begins, isEnd, before, Field as Part, field}
+use Rattle.feed.specs.Reading.{form, fieldsOf, valueFrom, inPlaces, judgedValues, valuesOf, judged, readRow}
 use Rattle.feed.specs.Fields.{digitsFrom, fieldFrom, readFrom}
 use Rattle.feed.proofs.Parse.{after-is, digits-within, digits-next, digits-value}
 
 -- five values and the hop, in their places
-module _ (v : List ℕ) (hop : ℕ) (five : length v ≡ 5) where
-  in-places : inPlaces (v ++ hop ∷ []) ≡ record { a = getD v 0 0; b = getD v 1 0; c = getD v 2 0; d = getD v 3 0; len = getD v 4 0; hop = hop }
-  unfolding inPlaces
-  in-places =
-      rw (List·getD-append v (hop ∷ []) 0 0 (omega arith), List·getD-append v (hop ∷ []) 0 1 (omega arith), List·getD-append v (hop ∷ []) 0 2 (omega arith), List·getD-append v (hop ∷ []) 0 3 (omega arith), List·getD-append v (hop ∷ []) 0 4 (omega arith), getD-at v hop [] 0 5 five)
+abbrev filled : List ℕ → ℕ → Values
+filled v hop = record { a = getD v 0 0; b = getD v 1 0; c = getD v 2 0; d = getD v 3 0; len = getD v 4 0; hop = hop }
+
+in-places : (v : List ℕ) (hop : ℕ) → length v ≡ 5 → inPlaces (v ++ hop ∷ []) ≡ filled v hop
+unfolding inPlaces
+in-places v hop five =
+    rw (
+      List·getD-append v (hop ∷ []) 0 0 (omega arith),
+      List·getD-append v (hop ∷ []) 0 1 (omega arith),
+      List·getD-append v (hop ∷ []) 0 2 (omega arith),
+      List·getD-append v (hop ∷ []) 0 3 (omega arith),
+      List·getD-append v (hop ∷ []) 0 4 (omega arith),
+      getD-at v hop [] 0 5 five,
+    )
 
 -- The hop: 1 to 5 digits, after which the row ends.
 module _ (row : List ℕ) (at : ℕ) (h : at ≤ length row) (v : List ℕ) (d : Digits) (e : d ≡ digitsFrom row at 5) where
@@ -50,15 +60,20 @@ module _ (row : List ℕ) (at : ℕ) (h : at ≤ length row) (v : List ℕ) (d :
       go : (isNumber 5 ds ≡ true) ⊎ (isNumber 5 ds ≡ false) → (isNumber 5 ds && isEnd (afterDigits (drop at row))) ≡ false
       go (inl n) =
           let few : length ds ≤ 5 = leb-true (length ds) 5 (and-right (leb 1 (length ds)) (leb (length ds) 5) n) in
-          rw (n, after-is (drop at row), drop-drop (length ds) at row, drop-cons row (at + length ds) 0 (omega (arith, digits-next row at 5 d e)))
+          rw (
+            n,
+            after-is (drop at row),
+            drop-drop (length ds) at row,
+            drop-cons row (at + length ds) 0 (omega (arith, digits-next row at 5 d e)),
+          )
       go (inr n) = rw n
 
   pub hop-last : (d .next ≡ at → ⊥) → length row ≤ d .next → length v ≡ 5
-      → judgedValues (record { a = getD v 0 0; b = getD v 1 0; c = getD v 2 0; d = getD v 3 0; len = getD v 4 0; hop = d .value }) ≡ readFrom v (fieldsOf [] (drop at row))
+      → judgedValues (filled v (d .value)) ≡ readFrom v (fieldsOf [] (drop at row))
   unfolding readFrom fieldsOf
   hop-last moved end five =
       rw (le-leb 1 (length ds) one, le-leb (length ds) 5 few, after-is (drop at row), drop-drop (length ds) at row, drop-all)
-      (sym (ap judgedValues (in-places v (valueFrom 0 ds) five ∙ ap filled value)))
+      (sym (ap judgedValues (in-places v (valueFrom 0 ds) five ∙ ap (filled v) value)))
     where
       few : length ds ≤ 5
       few = omega (arith, digits-next row at 5 d e, within)
@@ -68,9 +83,6 @@ module _ (row : List ℕ) (at : ℕ) (h : at ≤ length row) (v : List ℕ) (d :
 
       drop-all : drop (at + length ds) row ≡ []
       drop-all = drop-of-length-le row {i = at + length ds} (omega (arith, digits-next row at 5 d e))
-
-      filled : ℕ → Values
-      filled x = record { a = getD v 0 0; b = getD v 1 0; c = getD v 2 0; d = getD v 3 0; len = getD v 4 0; hop = x }
 
       value : valueFrom 0 ds ≡ d .value
       value = sym (digits-value row at 5 d e ∙ ap (valueFrom 0) (take-all 5 ds few))
@@ -89,8 +101,14 @@ fields-step m k fs bs = go (isNumber m (digits bs) && begins k (afterDigits bs))
 
 -- One number of the form with its mark: what is left of the form is read from the place after the mark.
 module _ (row : List ℕ) (at m k : ℕ) (h : at ≤ length row) (fs : List Part) where
+  abbrev front : List ℕ
+  front = digits (drop at row)
+
+  abbrev behind : List ℕ
+  behind = afterDigits (drop at row)
+
   abbrev test : Bool
-  test = isNumber m (digits (drop at row)) && begins k (afterDigits (drop at row))
+  test = isNumber m front && begins k behind
 
   begins-some : (bs : List ℕ) → begins k bs ≡ true → 1 ≤ length bs
   begins-some [] e = never-both e refl
@@ -106,7 +124,9 @@ module _ (row : List ℕ) (at m k : ℕ) (h : at ≤ length row) (fs : List Part
   unlike-none e = go (decided test)
     where
       go : (test ≡ true) ⊎ (test ≡ false) → fieldsOf (field m k ∷ fs) (drop at row) ≡ none
-      go (inl t) = let z : _≡_ {A = Field} (Read (valueFrom 0 (digits (drop at row))) (at + length (digits (drop at row)) + 1)) Unlike = sym (cond-true _ _ t) ∙ e in absurd (let o : _≡_ {A = ℕ} 0 1 = cc in omega arith)
+      go (inl t) =
+          let z : _≡_ {A = Field} (Read (valueFrom 0 front) (at + length front + 1)) Unlike = sym (cond-true _ _ t) ∙ e in
+          absurd (let o : _≡_ {A = ℕ} 0 1 = cc in omega arith)
       go (inr t) = fields-step m k fs (drop at row) ∙ cond-false _ _ t
 
   pub read-steps : (value next : ℕ) → fieldFrom row at m k ≡ Read value next → Stepped value next
@@ -115,17 +135,19 @@ module _ (row : List ℕ) (at m k : ℕ) (h : at ≤ length row) (fs : List Part
     where
       go : (test ≡ true) ⊎ (test ≡ false) → Stepped value next
       go (inl t) =
-          let z : _≡_ {A = Field} (Read (valueFrom 0 (digits (drop at row))) (at + length (digits (drop at row)) + 1)) (Read value next) = sym (cond-true _ _ t) ∙ e in
-          let v : valueFrom 0 (digits (drop at row)) ≡ value = cc in
-          let n : at + length (digits (drop at row)) + 1 ≡ next = cc in
-          let there : drop 1 (afterDigits (drop at row)) ≡ drop next row = rw (after-is (drop at row), drop-drop (length (digits (drop at row))) at row, drop-drop 1 (at + length (digits (drop at row))) row, n) in
-          let more = begins-some (afterDigits (drop at row)) (and-right (isNumber m (digits (drop at row))) _ t) in
+          let z : _≡_ {A = Field} (Read (valueFrom 0 front) (at + length front + 1)) (Read value next) = sym (cond-true _ _ t) ∙ e in
+          let v : valueFrom 0 front ≡ value = cc in
+          let n : at + length front + 1 ≡ next = cc in
+          let there : drop 1 behind ≡ drop next row = rw (after-is (drop at row), drop-drop (length front), drop-drop 1, n) in
+          let more = begins-some behind (and-right (isNumber m front) _ t) in
           record {
             rest = fields-step m k fs (drop at row) ∙ (cond-true _ _ t ∙ rw there);
             value-is = sym v;
-            next-in = omega (arith, ap length (after-is (drop at row)), length-drop (length (digits (drop at row))) (drop at row), length-drop at row);
+            next-in = omega (arith, ap length (after-is (drop at row)), length-drop (length front) (drop at row), length-drop at row);
           }
-      go (inr t) = absurd (let z : _≡_ {A = Field} Unlike (Read value next) = sym (cond-false _ _ t) ∙ e in let o : _≡_ {A = ℕ} 0 1 = cc in omega arith)
+      go (inr t) =
+          let z : _≡_ {A = Field} Unlike (Read value next) = sym (cond-false _ _ t) ∙ e in
+          absurd (let o : _≡_ {A = ℕ} 0 1 = cc in omega arith)
 
 -- Where the loop over the five numbers stands: the row says what the values so far and the rest of the row say.
 pub record Rowing (row v : List ℕ) (at i : ℕ) : Type 0 where
@@ -166,13 +188,20 @@ read-more vs ds none = refl
 read-more vs ds (some ns) = rw append-assoc
 
 module _ {row v : List ℕ} {at i : ℕ} (s : Rowing row v at i) (l : i < 5) where
+  abbrev most : ℕ
+  most = getD mosts i 0
+
+  abbrev mark : ℕ
+  mark = getD marks i 0
+
   pub rowing-unlike : fieldFrom row at (getD mosts i 0) (getD marks i 0) ≡ Unlike → bad rowShape ≡ readRow row
   unfolding readFrom
-  rowing-unlike e = sym (s .goes-on ∙ rw (form-at i l, unlike-none row at (getD mosts i 0) (getD marks i 0) (s .within) (drop (i + 1) form) e))
+  rowing-unlike e = sym (s .goes-on ∙ rw (form-at i l, unlike-none row at most mark (s .within) (drop (i + 1) form) e))
 
-  pub rowing-more : (value next : ℕ) → fieldFrom row at (getD mosts i 0) (getD marks i 0) ≡ Read value next → Rowing row (set v i value) next (i + 1)
+  pub rowing-more : (value next : ℕ) → fieldFrom row at (getD mosts i 0) (getD marks i 0) ≡ Read value next
+      → Rowing row (set v i value) next (i + 1)
   rowing-more value next e =
-      let t = read-steps row at (getD mosts i 0) (getD marks i 0) (s .within) (drop (i + 1) form) value next e in
+      let t = read-steps row at most mark (s .within) (drop (i + 1) form) value next e in
       record {
         within = t .next-in;
         five = length-set v i value ∙ s .five;

@@ -17,7 +17,8 @@ use Rattle.feed.specs.declared.Stepped.{Stepped}
 use Rattle.feed.specs.declared.Imported.{Imported}
 use Rattle.feed.specs.declared.Imported.the-variants.{Done, ReportShort}
 use Rattle.feed.specs.Reading.{Reading, good, bad, rowTaken, rowShape, rowRange, rowHostBits, rowRepeat, rowNoRoom}
-use Rattle.feed.specs.Import.{rowNumber, listAfter, rowNumbers, imported, countIf, countsOf, noCounts, importNumber, importCounts, importReport, importKeys, importHops}
+use Rattle.feed.specs.Import.{rowNumber, listAfter, rowNumbers, imported, countIf, countsOf}
+use Rattle.feed.specs.Import.{noCounts, importNumber, importCounts, importReport, importKeys, importHops}
 
 -- a row's reading: its prefix and hop, or its number 1, 2 or 3
 abbrev pub readingOf : RowRead → Reading
