@@ -59,6 +59,15 @@ struct whelk_counts whelk_import(const uint8_t *feed, size_t feed_length, uint64
 uint32_t whelk_plain_lookup(size_t count, const uint64_t *keys, size_t keys_length, const uint16_t *hops, size_t hops_length,
                             uint32_t address);
 
+/* A list of n rows has at most 2n + 1 runs; a run table has room for at most this many. */
+#define WHELK_TOP_RUNS 2097153
+
+/* Builds the run table of a list into lent starts and hops. Returns 4,294,967,296 x number + count of runs, where the number is 0, 11 for an
+   ill-formed list, or 13 where the table has more runs than the lesser of the two lengths (and the count is then 0 and nothing is written).
+   Slots past the count stay as they were. */
+uint64_t whelk_build(size_t count, const uint64_t *keys, size_t keys_length, const uint16_t *hops, size_t hops_length, uint32_t *starts,
+                     size_t starts_length, uint16_t *run_hops, size_t run_hops_length);
+
 #ifdef __cplusplus
 }
 #endif

@@ -6,6 +6,7 @@ use Prim.Native.Nat.{ℕ, _+_, _*_}
 use Rattle.routes.specs.Lookup.{lookupNumber, lookupHop}
 use Rattle.feed.specs.declared.Counts.{Counts}
 use Rattle.feed.specs.Import.{importNumber, importCounts, importKeys, importHops, importReport}
+use Rattle.runs.specs.Build.{buildNumber, buildCount, buildStarts, buildHops}
 use Rattle.host.specs.declared.WhelkCounts.{WhelkCounts}
 
 -- the seven counts of what an import returns
@@ -31,3 +32,9 @@ pub record HostImported (feed keys hops report : List ℕ) (r : WhelkCounts) (ke
 -- "65,536 × number + hop"
 unfoldable pub packedLookup : ℕ → List ℕ → List ℕ → ℕ → ℕ
 packedLookup count keys hops a = 65536 * lookupNumber count keys hops + lookupHop count keys hops a
+
+-- a build's number and count in one, and the two lent slices at exit, are what the definitions say of what was lent
+pub record HostBuilt (count : ℕ) (keys hops starts rhops : List ℕ) (r : ℕ) (starts′ rhops′ : List ℕ) : Type 0 where
+  pub answer : r ≡ 4294967296 * buildNumber count keys hops starts rhops + buildCount count keys hops starts rhops
+  pub starts-left : starts′ ≡ buildStarts count keys hops starts rhops
+  pub hops-left : rhops′ ≡ buildHops count keys hops starts rhops

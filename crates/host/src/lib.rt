@@ -1,11 +1,12 @@
 // The C interface: the library's entries over memory that the host lends, each with one number or one plain struct back. It adds no rule of its
 // own; include/whelkhollow.h declares what is exported here.
-ghost use Rattle.host.specs.Exports.{HostImported, packedLookup};
+ghost use Rattle.host.specs.Exports.{HostImported, HostBuilt, packedLookup};
 ghost use mathlib.Core.Path.{_≡_};
 ghost use Prim.Native.Nat.{_+_, _*_};
 ghost use Rattle.runs.specs.Lookup.{hostAnswer, runNumber, runHop, runProbes};
 use feed::Imported;
 use routes::Looked;
+use runs::Built;
 
 // What an import returns to C: its number, and the seven counts.
 #[repr(C)]
@@ -84,4 +85,23 @@ pub extern "C" fn whelk_run_lookup_slices(n: usize, starts: &[u32], hops: &[u16]
         + (65536 * runNumber n (now (starts .entry)) (now (hops .entry)) + runHop n (now (starts .entry)) (now (hops .entry)) a) ⌝ }
 {
     runs::whelk_run_lookup_slices(n, starts, hops, a)
+}
+
+// The run table of a list into lent starts and hops: 4,294,967,296 × number + count of runs.
+#[no_mangle]
+pub extern "C" fn whelk_build(
+    count: usize,
+    keys: &[u64],
+    hops: &[u16],
+    starts: &mut [u32],
+    rhops: &mut [u16],
+) -> u64
+    ensures { λ r. ⌜ HostBuilt count (now (keys .entry)) (now (hops .entry)) (now (starts .entry)) (now (rhops .entry)) r (now (starts .exit)) (now (rhops .exit)) ⌝ }
+{
+    let b = runs::build(count, keys, hops, starts, rhops);
+    match b {
+        Built::Runs(n) => n as u64,
+        Built::IllFormed => 47244640256,
+        Built::NoRoom => 55834574848,
+    }
 }
