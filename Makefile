@@ -1,5 +1,5 @@
-# `make` proves and builds, `make test` runs all tests, `make run` runs the program on a sample feed.
-.PHONY: all test run
+# `make run` runs the program on a sample feed, `make test` all tests, `make tools` builds the import tool, `make` proves and builds every crate.
+.PHONY: all test run tools
 all:
 	rt check
 
@@ -9,3 +9,6 @@ test:
 run:
 	@rt check whelk >&2
 	@bash tests/program/whelk <tests/program/sample.feed
+
+tools:
+	bash tools/build

@@ -1,0 +1,18 @@
+/* A feed in, its counts, and the next hop of an address. */
+#include <stdio.h>
+#include "whelkhollow.h"
+
+int main(void)
+{
+    const uint8_t feed[] = "10.0.0.0/8 7\n10.64.0.0/10 9\n";
+    uint64_t keys[8];
+    uint16_t hops[8], run_hops[17];
+    uint32_t starts[17];
+    uint8_t report[8];
+    struct whelk_counts c = whelk_import(feed, sizeof feed - 1, keys, 8, hops, 8, report, 8);
+    uint64_t runs = whelk_build(c.taken, keys, 8, hops, 8, starts, 17, run_hops, 17);
+    uint64_t found = whelk_run_lookup_slices(runs, starts, 17, run_hops, 17, 0x0a400001);
+    printf("taken %zu of %zu, %llu runs, 10.64.0.1 goes to hop %llu\n", c.taken, c.rows, (unsigned long long)runs,
+           (unsigned long long)(found & 65535));
+    return 0;
+}
