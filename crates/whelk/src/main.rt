@@ -21,6 +21,7 @@ fn table(count: usize, keys: &[u64], hops: &[u16]) {
     let mut starts = [0u32; 2049];
     let mut rhops = [0u16; 2049];
     let Built::Runs(n) = runs::build(count, keys, hops, &mut starts, &mut rhops) else {
+        print::text(b"run table refused\n");
         return;
     };
     print::runs(n, &starts, &rhops);
@@ -32,6 +33,7 @@ fn answer(feed: &[u8]) {
     let mut hops = [0u16; 1024];
     let mut report = [0u8; 16384];
     let Imported::Done(c) = feed::import(feed, &mut keys, &mut hops, &mut report) else {
+        print::text(b"import refused\n");
         return;
     };
     let count = c.taken;
