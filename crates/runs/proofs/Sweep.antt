@@ -24,7 +24,7 @@ use Rattle.routes.specs.Row.{Row, row, rowsOf, keysOf, every, keepRow, those}
 use Rattle.routes.specs.WellFormed.{prefixes, ascending, halfRows}
 use Rattle.routes.specs.Plain.{matching}
 use Rattle.routes.proofs.Columns.{keys-of-rows}
-use Rattle.runs.specs.Sweep.{lastOr, endOf, endsOf, allRows, answer, Sorted, Stack, Falling, Closed, Poised, Event, Turned}
+use Rattle.runs.specs.Sweep.{From, lastOr, endOf, endsOf, allRows, answer, Sorted, Stack, Falling, Closed, Poised, Event, Turned}
 
 -- the row at a place
 abbrev rowAt : List ℕ → List ℕ → ℕ → Row
@@ -388,12 +388,13 @@ module _ {keys hops ends labels : List ℕ} {row depth at : ℕ} (s : Sorted key
           → take (depth + 1) (set xs depth (f (rowAt keys hops row))) ≡ map f (matching at (rowsOf (row + 1) keys hops))
       column f xs e room = rw (add-one depth, one-more, map-append, ← e) (take-suc-set xs depth _ (omega (arith, room-above)))
 
-pub standing-start : {keys hops ends labels : List ℕ} → length ends ≡ 33 → length labels ≡ 33 → Stack keys hops ends labels 0 0 0 0
+pub standing-start : {keys hops ends labels : List ℕ} {start : ℕ} → From keys start → length ends ≡ 33 → length labels ≡ 33
+    → Stack keys hops ends labels 0 0 start start
 unfolding matching rowsOf those
-standing-start e e′ = record {
+standing-start from e e′ = record {
   within = omega arith;
   passed = λ i l. absurd (omega arith);
-  ahead = λ i l m. omega arith;
+  ahead = λ i l m. from i m;
   deep = refl;
   ends-are = refl;
   labels-are = refl;

@@ -43,6 +43,10 @@ pub record Sorted (keys hops : List ℕ) : Type 0 where
   pub paired : length hops ≡ length keys
   pub half : halfRows (allRows keys hops) ≡ true
 
+-- no row's network is before the address
+abbrev pub From : List ℕ → ℕ → Type 0
+From keys start = (i : ℕ) → i < length keys → start ≤ network (getD keys i 0)
+
 -- the stack at an address: of the first `row` rows, whose networks are at most the address, it has those that hold the address, in their
 -- order; the networks of the rows from there on are at least `next`
 pub record Stack (keys hops ends labels : List ℕ) (row depth at next : ℕ) : Type 0 where

@@ -1,4 +1,4 @@
--- `runs::begin` meets its contract: before any row the stack is empty, and the rows at address 0 are opened.
+-- `runs::begin` meets its contract: before any row the stack is empty, and the rows at the start are opened.
 -- Assumes nothing.
 use borrow.Author.Needs.{needs}
 use Rattle.runs.proofs.Sweep.{standing-start}
@@ -6,7 +6,7 @@ use Rattle.runs.proofs.begin.Statement.{statement}
 use Rattle.runs.proofs.begin.Tie as tie
 
 open-here-requires : tie.Need-open-here-requires
-open-here-requires c κs = let pre = c .before .before .before .before .pre in (pre .0, standing-start (pre .1) (pre .2))
+open-here-requires c κs = let pre = c .before .before .before .before .pre in (pre .0, standing-start (pre .1) (pre .2) (pre .3))
 
 returns : tie.Need-returns
 returns c = search needs

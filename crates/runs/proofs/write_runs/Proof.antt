@@ -19,7 +19,7 @@ abbrev μ-loop : tie.MeasureT-loop
 μ-loop keys hops base limit starts₀ rhops₀ ends₀ labels₀ s₀ n₀ starts rhops ends labels s n = limit - s .at
 
 begin-requires : tie.Need-begin-requires Inv-loop μ-loop
-begin-requires c κs = (c .before .before .before .before .before .before .pre .0, refl, refl)
+begin-requires c κs = (c .before .before .before .before .before .before .pre .0, (λ i l. omega arith), refl, refl)
 
 loop-holds : tie.Need-loop-holds Inv-loop μ-loop
 loop-holds c =
