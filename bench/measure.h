@@ -35,10 +35,15 @@ static int by_size(const void *a, const void *b)
 /* Work: `times` pieces, and a sum of what came out, by which the two are held to the same answers. */
 typedef uint64_t work(void);
 
-/* Round by round, ours and then C's; the row has the ratio of their median times, and each one's time for a piece. */
+/* Round by round, ours and then C's; the row has the ratio of their median times, each one's time for a piece, and how our time for a piece
+   has grown from the row of the same work and inputs before it. */
 static void row(const char *what, unsigned long size, const char *inputs, work *ours, work *in_c, unsigned long times)
 {
-    double a[ROUNDS], b[ROUNDS];
+    static struct {
+        const char *what, *inputs;
+        double time;
+    } last[8];
+    double a[ROUNDS], b[ROUNDS], piece;
     int i;
     if (ours() != in_c()) {
         printf("%s, %lu, %s: the answers differ\n", what, size, inputs);
@@ -54,8 +59,17 @@ static void row(const char *what, unsigned long size, const char *inputs, work *
     }
     qsort(a, ROUNDS, sizeof a[0], by_size);
     qsort(b, ROUNDS, sizeof b[0], by_size);
-    printf("%-22s %9lu  %-8s %6.2f %10.1f ns %10.1f ns\n", what, size, inputs, a[ROUNDS / 2] / b[ROUNDS / 2],
-           1e9 * a[ROUNDS / 2] / (double)times, 1e9 * b[ROUNDS / 2] / (double)times);
+    piece = 1e9 * a[ROUNDS / 2] / (double)times;
+    printf("%-22s %9lu  %-8s %6.2f %10.1f ns %10.1f ns", what, size, inputs, a[ROUNDS / 2] / b[ROUNDS / 2], piece,
+           1e9 * b[ROUNDS / 2] / (double)times);
+    for (i = 0; i < 8 && last[i].what && (last[i].what != what || last[i].inputs != inputs); i++) {}
+    if (i < 8) {
+        if (last[i].what) printf("  x %.2f", piece / last[i].time);
+        last[i].what = what;
+        last[i].inputs = inputs;
+        last[i].time = piece;
+    }
+    printf("\n");
 }
 
 #endif

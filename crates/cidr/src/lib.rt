@@ -41,13 +41,14 @@ pub fn holds(key: u64, a: u32) -> bool
     cleared(a as u64, host_bits(len)) == key / 64
 }
 
-// The network of a key, and one past the last address of its prefix, which for a prefix that reaches 255.255.255.255 is 2^32.
+// The network of a key.
 pub fn network(key: u64) -> u64
     ensures { λ r. ⌜ r ≡ network key ⌝ }
 {
     key / 64
 }
 
+// One past the last address of a key's prefix, which for a prefix that reaches 255.255.255.255 is 2^32.
 pub fn end_of(key: u64) -> u64
     ensures { λ r. ⌜ r ≡ network key + size (lengthOf key) ⌝ }
 {

@@ -7,3 +7,4 @@ pub mod Sweep
 pub mod Turning
 pub mod Whole
 pub mod Settled
+pub mod BuildThenLookup
