@@ -1,5 +1,5 @@
 #!/usr/bin/env python3
-"""An independent reference, written from document 01 alone with Python's standard library.
+"""A reference for the tests: document 01's rules in Python's standard library, another way than the library's and with none of its code.
 
 As a program it reads a feed from standard input and writes what the program `whelk` has to write.
 """

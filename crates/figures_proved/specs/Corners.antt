@@ -2,30 +2,34 @@
 -- Assumes nothing.
 use mathlib.Core.List.{List, [], _∷_, _++_}
 use mathlib.Core.Option.{Option, none, some}
-use Prim.Native.Nat.{ℕ, _^_}
+use Prim.Native.Nat.{ℕ, _+_, _^_}
 use lib.ListN.{length}
 use Rattle.ground.specs.Slots.{rewritten}
 use Rattle.ground.specs.Column.{insertedAt, removedAt}
 use Rattle.ground.specs.Halving.{halving}
-use Rattle.cidr.specs.Prefix.{dotted, isPrefix, holds, covers, keyOf}
+use Rattle.cidr.specs.Prefix.{dotted, size, network, isPrefix, holds, covers, keyOf}
 use Rattle.routes.specs.Row.{Row, keysOf, hopsOf, listRoom}
 use Rattle.routes.specs.WellFormed.{wellFormed}
 use Rattle.routes.specs.Plain.{plain}
 use Rattle.routes.specs.Change.{announced, withdrawn}
 use Rattle.routes.specs.Lookup.{lookupNumber, lookupHop, halfNumber, halfLabel}
-use Rattle.feed.specs.Rows.{rowsIn}
+use Rattle.routes.specs.Place.{lower, isKey}
+use Rattle.feed.specs.Rows.{rowsIn, rowLength}
 use Rattle.feed.specs.Reading.{Reading, good, bad}
 use Rattle.feed.specs.declared.Counts.{Counts}
 use Rattle.feed.specs.Import.{countsOf, noCounts, rowNumbers, imported, importNumber, importCounts, importReport, importKeys, importTally}
 use Rattle.feed.specs.Pull.{pull}
+use Rattle.runs.specs.Build.{buildNumber, buildStarts}
+use Rattle.runs.specs.Pair.{Pair}
 use Rattle.runs.specs.Bytes.{runBytes}
+use Rattle.edit.specs.Edit.{announce, withdraw}
 use Rattle.runs.specs.Lookup.{runNumber, runHop, runProbes, hostAnswer}
 use Rattle.segment.specs.Packed.{width, wordsOf, basesOf, packedHopsOf}
 use Rattle.segment.specs.Lookup.{packedNumber, packedHop}
 use Rattle.split.specs.Split.{secondHalf, splitNumber}
 use Rattle.text.specs.Text.{textOf, writeNumber, writeBuffer}
 use Rattle.text.specs.Program.{bytes, countLines, runLines}
-use Rattle.figures_proved.specs.Figure.{Figure, figure, one, passes, fails, prefix, route}
+use Rattle.figures_proved.specs.Figure.{Figure, figure, one, asNumber, passes, fails, prefix, route}
 use Rattle.figures_proved.specs.Marked.{listA, q, fiveRows}
 
 -- 0.0.0.0/0, 128.0.0.0/1 and 255.255.255.255/32, as a list
@@ -57,6 +61,10 @@ nested = route 10 0 0 0 8 1 ∷ route 10 64 0 0 10 2 ∷ []
 -- the number of a split with room for two rows
 abbrev pub splitOf : ℕ → ℕ → List ℕ → List ℕ → ℕ
 splitOf k count keys hops = splitNumber k count keys hops (0 ∷ 0 ∷ []) (0 ∷ 0 ∷ [])
+
+-- the empty list with a count of runs beyond one of their slices
+abbrev pub illPair : Pair
+illPair = record { count = 0; keys = []; hops = []; runs = 1; starts = 5 ∷ []; rhops = [] }
 
 abbrev pub corners : List Figure
 corners =
@@ -195,4 +203,21 @@ corners =
     ∷ figure (packedHopsOf 2624 (announced (prefix 10 64 128 0 17) 3 nested)) (2 ∷ 3 ∷ [])
     -- a label 0 row of a half hides the shorter prefix around it
     ∷ one (halfLabel 2 (prefix 10 0 0 0 8 ∷ prefix 10 64 0 0 10 ∷ []) (1 ∷ 0 ∷ []) (dotted 10 64 0 1)) 0
+    -- the place of a key: none listed, before all, at the last, after all
+    ∷ figure (lower 5 [] ∷ lower 5 (6 ∷ 8 ∷ []) ∷ lower 8 (6 ∷ 8 ∷ []) ∷ lower 9 (6 ∷ 8 ∷ []) ∷ []) (0 ∷ 0 ∷ 1 ∷ 2 ∷ [])
+    ∷ figure (asNumber (isKey 5 []) ∷ asNumber (isKey 8 (6 ∷ 8 ∷ [])) ∷ asNumber (isKey 7 (6 ∷ 8 ∷ [])) ∷ []) (0 ∷ 1 ∷ 0 ∷ [])
+    -- the first row's length: nothing, an LF first, an LF later, none
+    ∷ figure (rowLength [] ∷ rowLength (bytes "\nab") ∷ rowLength (bytes "ab\nc") ∷ rowLength (bytes "ab") ∷ []) (0 ∷ 0 ∷ 2 ∷ 2 ∷ [])
+    -- one past a prefix that reaches the last address is 2^32, and a prefix of length 0 is all addresses
+    ∷ figure ((network (prefix 255 255 255 255 32) + size 32) ∷ (network (prefix 128 0 0 0 1) + size 1) ∷ size 0 ∷ [])
+    (4294967296 ∷ 4294967296 ∷ 4294967296 ∷ [])
+    -- a build of an ill-formed list is 11 with no room at all too, and its slices stay
+    ∷ one (buildNumber 1 (2 ^ 38 ∷ []) (1 ∷ []) [] []) 11
+    ∷ figure (buildStarts 1 (2 ^ 38 ∷ []) (1 ∷ []) (7 ∷ []) (8 ∷ [])) (7 ∷ [])
+    -- an edit's 15 comes before the pair's 11, a count of runs beyond one slice is 11, and a refusal returns 0 for the counts
+    ∷ figure (announce 0 33 1 illPair .number ∷ announce 1 8 1 illPair .number ∷ announce 0 8 0 illPair .number ∷ withdraw 0 33 illPair .number ∷ [])
+    (15 ∷ 15 ∷ 15 ∷ 15 ∷ [])
+    ∷ figure (announce 0 8 1 illPair .number ∷ withdraw 0 8 illPair .number ∷ announce 0 8 1 illPair .count ∷ announce 0 8 1 illPair .changed ∷ [])
+    (11 ∷ 11 ∷ 0 ∷ 0 ∷ [])
+    ∷ figure (announce 0 8 1 illPair .starts) (5 ∷ [])
     ∷ []
