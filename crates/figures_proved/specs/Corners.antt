@@ -17,7 +17,7 @@ use Rattle.routes.specs.Place.{lower, isKey}
 use Rattle.feed.specs.Rows.{rowsIn, rowLength}
 use Rattle.feed.specs.Reading.{Reading, good, bad}
 use Rattle.feed.specs.declared.Counts.{Counts}
-use Rattle.feed.specs.Import.{countsOf, noCounts, rowNumbers, imported, importNumber, importCounts, importReport, importKeys, importTally}
+use Rattle.feed.specs.Import.{countsOf, rowNumbers, imported, importNumber, importCounts, importReport, importKeys, importTally}
 use Rattle.feed.specs.Pull.{pull}
 use Rattle.runs.specs.Build.{buildNumber, buildStarts}
 use Rattle.runs.specs.Pair.{Pair}

@@ -1,4 +1,4 @@
--- What the exports return to C, in document 01's numbers.
+-- What the exports return to C: document 01's numbers, packed into one by rules of our own but for run bytes.
 -- Assumes nothing.
 use mathlib.Core.Path.{_≡_}
 use mathlib.Core.List.{List}
@@ -29,7 +29,7 @@ pub record HostImported (feed keys hops report : List ℕ) (r : WhelkCounts) (ke
   pub hops-left : hops′ ≡ importHops feed keys hops report
   pub report-left : report′ ≡ importReport feed keys hops report
 
--- "65,536 × number + hop"
+-- 65,536 × number + hop, as document 01 has it for run bytes
 unfoldable pub packedLookup : ℕ → List ℕ → List ℕ → ℕ → ℕ
 packedLookup count keys hops a = 65536 * lookupNumber count keys hops + lookupHop count keys hops a
 
