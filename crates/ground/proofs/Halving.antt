@@ -4,14 +4,14 @@
 -- Assumes nothing.
 use mathlib.Core.Path.{_≡_, refl, sym, ap, _∙_}
 use mathlib.Core.Bool.{Bool, true, false, cond}
-use Prim.Native.Nat.{ℕ, zero, suc, _+_, _-_, _/_, _%_, _^_, _≤_, _<_, zero-le}
+use Prim.Native.Nat.{ℕ, zero, suc, _+_, _-_, _/_, _^_, _≤_, _<_, zero-le}
 use native.Mathlib.Nat.{le-refl, zero-add, add-zero, add-suc, suc-add}
 use native.Mathlib.Numerals.{add-one}
 use native.Mathlib.Omega.{arith}
-use lib.Dec.{leb}
-use borrow.Author.Tests.{leb-true, leb-false, le-leb, lt-leb}
+use lib.Dec.{leb, ltb}
+use borrow.Author.Tests.{leb-true, leb-false, le-leb, lt-leb, ltb-true, ltb-false}
 use Rattle.ground.specs.Halving.{probed, halves, halving}
-use Rattle.ground.specs.Turn.{Turned}
+use Rattle.ground.specs.Narrowed.{Narrowed}
 
 -- how the loop goes from low and high on: it ends at the place `found` after `probes` more probes
 pub data Ends (at : ℕ → ℕ) (a : ℕ) : ℕ → ℕ → ℕ → ℕ → Type 0 where
@@ -167,15 +167,53 @@ module _ {at : ℕ → ℕ} {n a low high probes : ℕ} (s : Halfway at n a low 
       goes-on = λ r. s .goes-on (down far (rw half at l) (rw half at r)) ∙ simp (add-one, suc-add, add-suc);
     }
 
-pub halfway-turn : {at : ℕ → ℕ} {n a low apart probes low′ apart′ : ℕ} → Halfway at n a low (low + apart) probes → 1 < apart
-    → Turned at a low apart low′ apart′ → Halfway at n a low′ (low′ + apart′) (probes + 1)
-halfway-turn {at} {n} {a} {low} {apart} {probes} {low′} {apart′} s far t = go (leb (at (low + apart / 2)) a) refl (t .new-low) (t .new-apart)
-  where
-    go : (b : Bool) → leb (at (low + apart / 2)) a ≡ b → low′ ≡ low + cond b (apart / 2) 0 → apart′ ≡ apart / 2 + cond b (apart % 2) 0
-        → Halfway at n a low′ (low′ + apart′) (probes + 1)
-    go true e l k =
-        let same : low′ + apart′ ≡ low + apart = omega arith in
-        rw (same, l) (halfway-up s (low + apart / 2) (omega arith) (omega arith) (leb-true (at (low + apart / 2)) a e))
-    go false e l k =
-        let same : low′ + apart′ ≡ low + apart / 2 = omega arith in
-        rw (same, l, add-zero) (halfway-down s (low + apart / 2) (omega arith) (omega arith) (leb-false (at (low + apart / 2)) a e))
+-- high and low come closer
+pub narrowed-closer : {above : Bool} {place apart place′ apart′ : ℕ} → Narrowed above place apart place′ apart′ → 1 < apart → apart′ < apart
+narrowed-closer {above = true} t far = omega (arith, t .new-apart)
+narrowed-closer {above = false} t far = omega (arith, t .new-apart)
+
+-- what code that carries the place to probe next keeps true: it is halfway, and the place is (low + high) div 2
+pub record Probing (at : ℕ → ℕ) (n a place apart probes : ℕ) : Type 0 where
+  pub low : ℕ
+  pub next : place ≡ low + apart / 2
+  pub halfway : Halfway at n a low (low + apart) probes
+
+pub probing-start : (at : ℕ → ℕ) (n a : ℕ) → 1 ≤ n → Probing at n a (n / 2) n 0
+probing-start at n a h = record { low = 0; next = sym (zero-add _); halfway = rw zero-add (halfway-start at n a h) }
+
+module _ {at : ℕ → ℕ} {n a place apart probes : ℕ} (s : Probing at n a place apart probes) where
+  -- low and high are places
+  pub probing-bounds : (apart / 2 ≤ place) × (place + (apart - apart / 2) ≤ n) × (0 < apart)
+  probing-bounds = (omega (arith, s .next), omega (arith, s .next, s .halfway .within), omega (arith, s .halfway .apart))
+
+  pub probing-end : apart ≤ 1 → halving at n a ≡ record { low = place; probes = probes }
+  probing-end close =
+      let same : place ≡ s .low = omega (arith, s .next) in
+      rw same (halfway-end (s .halfway) (omega arith))
+
+  pub probing-probes : (p : ℕ) → n ≤ 2 ^ p → probes ≤ p
+  probing-probes = halfway-probes (s .halfway)
+
+  pub probing-narrowed : {place′ apart′ : ℕ} → 1 < apart → Narrowed (ltb a (at place)) place apart place′ apart′
+      → Probing at n a place′ apart′ (probes + 1)
+  probing-narrowed {place′} {apart′} far t = go (ltb a (at place)) refl (t .new-place) (t .new-apart)
+    where
+      mid : place ≡ (s .low + (s .low + apart)) / 2
+      mid = omega (arith, s .next)
+
+      go : (b : Bool) → ltb a (at place) ≡ b → place′ ≡ cond b (place - apart / 2 + apart / 2 / 2) (place + (apart - apart / 2) / 2)
+          → apart′ ≡ cond b (apart / 2) (apart - apart / 2) → Probing at n a place′ apart′ (probes + 1)
+      go true e p k =
+          let high : s .low + apart′ ≡ place = omega (arith, s .next) in
+          record {
+            low = s .low;
+            next = omega (arith, s .next);
+            halfway = rw high (halfway-down (s .halfway) place mid (omega arith) (ltb-true a (at place) e));
+          }
+      go false e p k =
+          let high : place + apart′ ≡ s .low + apart = omega (arith, s .next) in
+          record {
+            low = place;
+            next = omega arith;
+            halfway = rw high (halfway-up (s .halfway) place mid (omega arith) (ltb-false a (at place) e));
+          }

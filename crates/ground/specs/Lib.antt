@@ -3,4 +3,4 @@ pub mod Slots
 pub mod Column
 pub mod Stretch
 pub mod Halving
-pub mod Turn
+pub mod Narrowed

@@ -8,12 +8,13 @@ use Prim.Native.Nat.{ℕ, _+_, _*_, _/_, _%_, _^_, _≤_, _<_, min, zero-le}
 use native.Mathlib.Nat.{zero-add, add-zero}
 use native.Mathlib.Omega.{arith}
 use lib.ListN.{length, getD}
-use lib.Dec.{eqb, leb}
+use lib.Dec.{eqb, ltb}
 use borrow.Author.Tests.{eq-eqb, ne-eqb, lt-ltb, le-ltb}
 use Rattle.ground.specs.Numbers.{firstFault, ifDone}
 use Rattle.ground.specs.Halving.{halving}
+use Rattle.ground.specs.Narrowed.{Narrowed}
 use Rattle.ground.proofs.Truth.{or-right}
-use Rattle.ground.proofs.Halving.{probes-at-most, Halfway, halfway-start, halfway-turn, halfway-end}
+use Rattle.ground.proofs.Halving.{probes-at-most, Probing, probing-start, probing-narrowed, probing-end}
 use Rattle.runs.specs.declared.Probed.the-variants.{Hop, IllFormed}
 use Rattle.runs.specs.Bytes.{startAt, hopAt}
 use Rattle.runs.specs.Lookup.{inSlices, runChecks, runNumber, runHop, runProbes, inBytes, hostChecks, hostNumber, hostHop, hostAnswer}
@@ -69,41 +70,27 @@ module _ (bytes : List ℕ) where
   unfolding hostAnswer hostHop ifDone
   host-refused a e = rw e
 
--- what code that halves run bytes keeps true: it is halfway at a run whose bytes begin at `from`
-pub record RunsHalved (bytes : List ℕ) (a from apart : ℕ) : Type 0 where
-  pub low : ℕ
+-- what code that halves run bytes keeps true
+pub record RunsHalved (bytes : List ℕ) (a place apart : ℕ) : Type 0 where
   pub probes : ℕ
-  pub begins : from ≡ low * 6
-  pub halfway : Halfway (startAt bytes) (length bytes / 6) a low (low + apart) probes
+  pub probing : Probing (startAt bytes) (length bytes / 6) a place apart probes
 
-pub runs-start : (bytes : List ℕ) (a : ℕ) → 1 ≤ length bytes / 6 → RunsHalved bytes a 0 (length bytes / 6)
-runs-start bytes a some = record { low = 0; probes = 0; begins = refl; halfway = rw zero-add (halfway-start _ _ _ some) }
+pub runs-start : (bytes : List ℕ) (a : ℕ) → 1 ≤ length bytes / 6 → RunsHalved bytes a (length bytes / 6 / 2) (length bytes / 6)
+runs-start bytes a some = record { probes = 0; probing = probing-start _ _ _ some }
 
 -- four bytes as a number, high byte first
 abbrev fourFrom : List ℕ → ℕ → ℕ
 fourFrom bytes k = getD bytes k 0 * 16777216 + getD bytes (k + 1) 0 * 65536 + getD bytes (k + 2) 0 * 256 + getD bytes (k + 3) 0
 
-start-here : (bytes : List ℕ) (i k : ℕ) → k ≡ i * 6 → fourFrom bytes k ≡ startAt bytes i
+start-here : (bytes : List ℕ) (i : ℕ) → fourFrom bytes (i * 6) ≡ startAt bytes i
 unfolding startAt
-start-here bytes i k e = rw (e, add-zero)
+start-here bytes i = rw add-zero
 
-six-parts : (b : Bool) (x : ℕ) → cond b (x * 6) 0 ≡ cond b x 0 * 6
-six-parts true x = refl
-six-parts false x = refl
+module _ {bytes : List ℕ} {a place apart : ℕ} (s : RunsHalved bytes a place apart) where
+  pub runs-narrowed : {start place′ apart′ : ℕ} → 1 < apart → start ≡ fourFrom bytes (place * 6)
+      → Narrowed (ltb a start) place apart place′ apart′ → RunsHalved bytes a place′ apart′
+  runs-narrowed far four t = record { probes = s .probes + 1; probing = probing-narrowed (s .probing) far (rw (four ∙ start-here bytes place) at t) }
 
-module _ {bytes : List ℕ} {a from apart : ℕ} (s : RunsHalved bytes a from apart) where
-  pub runs-turn : {start up odd : ℕ} → 1 < apart → start ≡ fourFrom bytes (from + apart / 2 * 6) → up ≡ cond (leb start a) (apart / 2 * 6) 0
-      → odd ≡ cond (leb start a) (apart % 2) 0 → odd ≤ apart % 2 → RunsHalved bytes a (from + up) (apart / 2 + odd)
-  runs-turn {start} far four u o small =
-      let mid = s .low + apart / 2 in
-      let same : start ≡ startAt bytes mid = four ∙ start-here bytes mid _ (omega (arith, s .begins)) in
-      record {
-        low = s .low + cond (leb (startAt bytes mid) a) (apart / 2) 0;
-        probes = s .probes + 1;
-        begins = omega (arith, s .begins, rw same at u, six-parts (leb (startAt bytes mid) a) (apart / 2));
-        halfway = halfway-turn (s .halfway) far (record { new-low = refl; new-apart = rw (← same, o); closer = omega arith });
-      }
-
-  pub runs-end : apart ≤ 1 → hostNumber bytes ≡ 0 → getD bytes (from + 4) 0 * 256 + getD bytes (from + 5) 0 ≡ hostAnswer bytes a
+  pub runs-end : apart ≤ 1 → hostNumber bytes ≡ 0 → getD bytes (place * 6 + 4) 0 * 256 + getD bytes (place * 6 + 5) 0 ≡ hostAnswer bytes a
   unfolding hostAnswer hostHop inBytes hopAt ifDone
-  runs-end near e = rw (e, halfway-end (s .halfway) (omega arith), s .begins, zero-add)
+  runs-end close e = rw (e, probing-end (s .probing) close, zero-add)

@@ -1,82 +1,57 @@
--- `runs::run_lookup` meets its contract. Both loops keep `Halfway` true of low and low + apart, turn by turn: (low + high) div 2 is low +
--- apart div 2. More than 3 apart, two probes are sure to come. The measure is apart.
+-- `runs::run_lookup` meets its contract. The loop keeps `Probing` true: halving is halfway, with the place to probe next at (low + high) div
+-- 2. The measure is how far high is from low.
 -- Assumes nothing.
-use Prim.Native.Nat.{_+_}
-use native.Mathlib.Nat.{zero-add, add-assoc}
 use native.Mathlib.Omega.{arith}
 use lib.ListN.{getD}
-use Rattle.ground.proofs.Halving.{Halfway, halfway-start, halfway-turn, halfway-end, halfway-probes}
+use Rattle.ground.proofs.Halving.{narrowed-closer, Probing, probing-start, probing-narrowed, probing-bounds, probing-probes, probing-end}
 use Rattle.runs.proofs.Answers.{no-runs, beyond-slices, runs-accepted, refused, found}
 use Rattle.runs.proofs.run_lookup.Statement.{statement}
 use Rattle.runs.proofs.run_lookup.Tie as tie
 
 abbrev Inv-loop : tie.InvT-loop
-Inv-loop n starts hops a s₀ probes₀ s probes = Halfway (λ i. getD starts i 0) n a (s .low) (s .low + s .apart) probes
+Inv-loop n starts hops a s₀ probes₀ s probes = Probing (λ i. getD starts i 0) n a (s .place) (s .apart) probes
 
 abbrev μ-loop : tie.MeasureT-loop
 μ-loop n starts hops a s₀ probes₀ s probes = s .apart
 
-abbrev Inv-loop2 : tie.InvT-loop2
-Inv-loop2 n starts hops a s₀ probes₀ s probes = Halfway (λ i. getD starts i 0) n a (s .low) (s .low + s .apart) probes
-
-abbrev μ-loop2 : tie.MeasureT-loop2
-μ-loop2 n starts hops a s₀ probes₀ s probes = s .apart
-
-returns : tie.Need-returns Inv-loop μ-loop Inv-loop2 μ-loop2
+returns : tie.Need-returns Inv-loop μ-loop
 returns c = refused _ _ _ _ (no-runs _ _ _ (omega arith))
 
-returns-2 : tie.Need-returns-2 Inv-loop μ-loop Inv-loop2 μ-loop2
+returns-2 : tie.Need-returns-2 Inv-loop μ-loop
 returns-2 c = refused _ _ _ _ (beyond-slices _ _ _ (omega arith))
 
-returns-3 : tie.Need-returns-3 Inv-loop μ-loop Inv-loop2 μ-loop2
+returns-3 : tie.Need-returns-3 Inv-loop μ-loop
 returns-3 c = refused _ _ _ _ (beyond-slices _ _ _ (omega arith))
 
-loop-holds : tie.Need-loop-holds Inv-loop μ-loop Inv-loop2 μ-loop2
-loop-holds c = rw zero-add (halfway-start _ _ _ (omega arith))
+loop-holds : tie.Need-loop-holds Inv-loop μ-loop
+loop-holds c = probing-start _ _ _ (omega arith)
 
-probe-requires : tie.Need-probe-requires Inv-loop μ-loop Inv-loop2 μ-loop2
-probe-requires c κs = (omega arith, omega arith)
+mul-narrow : tie.Need-mul-narrow Inv-loop μ-loop
+mul-narrow c = omega (arith, probing-bounds (c .before .before .loop .inv))
 
-probe-requires-2 : tie.Need-probe-requires-2 Inv-loop μ-loop Inv-loop2 μ-loop2
-probe-requires-2 c κs =
-    let once = halfway-turn (c .before .before .before .loop .inv) (omega arith) (c .probe .ensures) in
-    (omega arith, omega arith)
+shared-slice-read-narrow : tie.Need-shared-slice-read-narrow Inv-loop μ-loop
+shared-slice-read-narrow c = omega (arith, probing-bounds (c .before .before .before .loop .inv))
 
-add-probes : tie.Need-add-probes Inv-loop μ-loop Inv-loop2 μ-loop2
-add-probes c = omega (arith, halfway-probes (c .before .before .before .before .loop .inv) 64 (omega arith))
+narrow-requires : tie.Need-narrow-requires Inv-loop μ-loop
+narrow-requires c κs = let b = probing-bounds (c .before .before .before .loop .inv) in (b .0, omega arith)
 
-loop-less : tie.Need-loop-less Inv-loop μ-loop Inv-loop2 μ-loop2
-loop-less c = omega arith
+add-probes : tie.Need-add-probes Inv-loop μ-loop
+add-probes c = omega (arith, probing-probes (c .before .before .before .before .loop .inv) 64 (omega arith))
 
-loop-again : tie.Need-loop-again Inv-loop μ-loop Inv-loop2 μ-loop2
-loop-again c =
-    let once = halfway-turn (c .before .before .before .before .loop .inv) (omega arith) (c .before .probe .ensures) in
-    rw add-assoc at (halfway-turn once (omega arith) (c .probe2 .ensures))
+loop-less : tie.Need-loop-less Inv-loop μ-loop
+loop-less c = narrowed-closer (c .narrow .ensures) (omega arith)
 
-loop2-holds : tie.Need-loop2-holds Inv-loop μ-loop Inv-loop2 μ-loop2
-loop2-holds c = c .before .before .loop .inv
+loop-again : tie.Need-loop-again Inv-loop μ-loop
+loop-again c = probing-narrowed (c .before .before .before .before .loop .inv) (omega arith) (c .narrow .ensures)
 
-probe-requires-3 : tie.Need-probe-requires-3 Inv-loop μ-loop Inv-loop2 μ-loop2
-probe-requires-3 c κs = (omega arith, omega arith)
+mul-t10 : tie.Need-mul-t10 Inv-loop μ-loop
+mul-t10 c = omega (arith, probing-bounds (c .before .before .loop .inv))
 
-add-probes-2 : tie.Need-add-probes-2 Inv-loop μ-loop Inv-loop2 μ-loop2
-add-probes-2 c = omega (arith, halfway-probes (c .before .before .before .loop2 .inv) 64 (omega arith))
+shared-slice-read-t16 : tie.Need-shared-slice-read-t16 Inv-loop μ-loop
+shared-slice-read-t16 c = omega (arith, probing-bounds (c .before .before .before .loop .inv))
 
-loop2-less : tie.Need-loop2-less Inv-loop μ-loop Inv-loop2 μ-loop2
-loop2-less c = omega arith
-
-loop2-again : tie.Need-loop2-again Inv-loop μ-loop Inv-loop2 μ-loop2
-loop2-again c = halfway-turn (c .before .before .before .loop2 .inv) (omega arith) (c .probe3 .ensures)
-
-mul-t9 : tie.Need-mul-t9 Inv-loop μ-loop Inv-loop2 μ-loop2
-mul-t9 c = omega arith
-
-shared-slice-read-t13 : tie.Need-shared-slice-read-t13 Inv-loop μ-loop Inv-loop2 μ-loop2
-shared-slice-read-t13 c = omega arith
-
-returns-4 : tie.Need-returns-4 Inv-loop μ-loop Inv-loop2 μ-loop2
-returns-4 c =
-    found _ _ _ _ (runs-accepted _ _ _ (omega arith) (omega arith)) (halfway-end (c .before .before .before .loop2 .inv) (omega arith))
+returns-4 : tie.Need-returns-4 Inv-loop μ-loop
+returns-4 c = found _ _ _ _ (runs-accepted _ _ _ (omega arith) (omega arith)) (probing-end (c .before .before .before .loop .inv) (omega arith))
 
 pub run-lookup-spec : {M : Type 1} → statement M
 run-lookup-spec =
@@ -84,22 +59,16 @@ run-lookup-spec =
     (tie.spec
     Inv-loop
     μ-loop
-    Inv-loop2
-    μ-loop2
     returns
     returns-2
     returns-3
     loop-holds
-    probe-requires
-    probe-requires-2
+    mul-narrow
+    shared-slice-read-narrow
+    narrow-requires
     add-probes
     loop-less
     loop-again
-    loop2-holds
-    probe-requires-3
-    add-probes-2
-    loop2-less
-    loop2-again
-    mul-t9
-    shared-slice-read-t13
+    mul-t10
+    shared-slice-read-t16
     returns-4)
