@@ -3,7 +3,7 @@
 ghost use Rattle.host.specs.Exports.{HostImported, HostBuilt, packedLookup};
 ghost use mathlib.Core.Path.{_≡_};
 ghost use Prim.Native.Nat.{_+_, _*_};
-ghost use Rattle.runs.specs.Lookup.{hostAnswer, runNumber, runHop, runProbes};
+ghost use Rattle.runs.specs.Lookup.{slicesAnswer, hostAnswer};
 use feed::Imported;
 use routes::Looked;
 use runs::Built;
@@ -79,10 +79,7 @@ pub extern "C" fn whelk_run_lookup(bytes: &[u8], a: u32) -> u32
 // Run lookup over the first `n` runs of lent starts and hops: 4,294,967,296 × probes + 65,536 × number + hop.
 #[no_mangle]
 pub extern "C" fn whelk_run_lookup_slices(n: usize, starts: &[u32], hops: &[u16], a: u32) -> u64
-    ensures { λ r. ⌜
-        r ≡
-        4294967296 * runProbes n (now (starts .entry)) (now (hops .entry)) a
-        + (65536 * runNumber n (now (starts .entry)) (now (hops .entry)) + runHop n (now (starts .entry)) (now (hops .entry)) a) ⌝ }
+    ensures { λ r. ⌜ r ≡ slicesAnswer n (now (starts .entry)) (now (hops .entry)) a ⌝ }
 {
     runs::whelk_run_lookup_slices(n, starts, hops, a)
 }

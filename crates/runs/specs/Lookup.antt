@@ -1,5 +1,5 @@
--- "The answer is the hop at low and the number of probes." "For run lookups, [11 is] no runs or count beyond the slices."
--- "[The C host] gets 65,536 × number + hop; no bytes, or a length that 6 doesn't divide, is 11."
+-- "The answer is the hop at low and the number of probes"; 11 is "for run lookups, no runs or count beyond the slices". The C host "gets
+-- 65,536 × number + hop; no bytes, or a length that 6 doesn't divide, is 11".
 -- Assumes nothing.
 use mathlib.Core.Bool.{not, _||_}
 use mathlib.Core.List.{List, [], _∷_}
@@ -26,6 +26,10 @@ runHop n starts hops a = ifDone (runNumber n starts hops) (getD hops (inSlices n
 unfoldable pub runProbes : ℕ → List ℕ → List ℕ → ℕ → ℕ
 runProbes n starts hops a = ifDone (runNumber n starts hops) (inSlices n starts a .probes)
 
+-- the one number that C gets from a run lookup over slices, a rule of our own
+unfoldable pub slicesAnswer : ℕ → List ℕ → List ℕ → ℕ → ℕ
+slicesAnswer n starts hops a = 4294967296 * runProbes n starts hops a + (65536 * runNumber n starts hops + runHop n starts hops a)
+
 -- halving over run bytes, 6 for each run
 unfoldable pub inBytes : List ℕ → ℕ → Halved
 inBytes bytes a = halving (startAt bytes) (length bytes / 6) a
@@ -39,6 +43,6 @@ hostNumber bytes = firstFault (hostChecks bytes)
 unfoldable pub hostHop : List ℕ → ℕ → ℕ
 hostHop bytes a = ifDone (hostNumber bytes) (hopAt bytes (inBytes bytes a .low))
 
--- the one number that the C host gets
+-- the one number that the C host gets from run bytes
 unfoldable pub hostAnswer : List ℕ → ℕ → ℕ
 hostAnswer bytes a = 65536 * hostNumber bytes + hostHop bytes a

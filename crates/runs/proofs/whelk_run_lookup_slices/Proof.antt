@@ -8,7 +8,7 @@ use native.Mathlib.Omega.{arith}
 use borrow.Author.Needs.{needs}
 use Rattle.runs.specs.declared.Probed.{Probed}
 use Rattle.runs.specs.declared.Probed.the-variants.{Hop, IllFormed}
-use Rattle.runs.specs.Lookup.{runNumber, runHop, runProbes}
+use Rattle.runs.specs.Lookup.{slicesAnswer}
 use Rattle.runs.specs.Probed.{RunLookedUp}
 use Rattle.runs.proofs.Answers.{run-probes-at-most}
 use Rattle.runs.proofs.whelk_run_lookup_slices.Statement.{statement}
@@ -18,11 +18,12 @@ module _ {n : ℕ} {starts hops : List ℕ} {a : ℕ} {r : Probed} (l : RunLooke
   probes-fit : {h p : ℕ} → r ≡ Hop h p → n ≤ 2 ^ 64 → p ≤ 64
   probes-fit e k = omega (arith, (rw e at l) .probes, run-probes-at-most n starts hops a 64 k)
 
-  one-number : {h p : ℕ} → r ≡ Hop h p
-      → 4294967296 * p + h ≡ 4294967296 * runProbes n starts hops a + (65536 * runNumber n starts hops + runHop n starts hops a)
+  one-number : {h p : ℕ} → r ≡ Hop h p → 4294967296 * p + h ≡ slicesAnswer n starts hops a
+  unfolding slicesAnswer
   one-number e = let t = rw e at l in omega (arith, t .number, t .hop, t .probes)
 
-  one-refusal : r ≡ IllFormed → 720896 ≡ 4294967296 * runProbes n starts hops a + (65536 * runNumber n starts hops + runHop n starts hops a)
+  one-refusal : r ≡ IllFormed → 720896 ≡ slicesAnswer n starts hops a
+  unfolding slicesAnswer
   one-refusal e = let t = rw e at l in omega (arith, t .number, t .hop, t .probes)
 
 run-lookup-requires : tie.Need-run-lookup-requires
