@@ -1,6 +1,7 @@
-/* Building the run table of a list whose prefixes nest as in real tables: most of them /24, some in shorter ones. Room is 2n + 1. */
+/* Building the run table of a list whose prefixes nest as in real tables. Room is 2n + 1. */
 #include "in_c.h"
 #include "measure.h"
+#include "nested.h"
 #include "whelkhollow.h"
 
 #define MOST 1000000u
@@ -25,23 +26,11 @@ static uint64_t in_c(void)
     return sum_of(c_build(n, keys, n, hops, n, starts, 2 * n + 1, run_hops, 2 * n + 1));
 }
 
-static int ascending(const void *a, const void *b)
-{
-    uint64_t x = *(const uint64_t *)a, y = *(const uint64_t *)b;
-    return (x > y) - (x < y);
-}
-
 /* At most `most` prefixes in key order, each once. */
 static void list(size_t most)
 {
-    static const unsigned lengths[10] = {24, 24, 24, 24, 24, 24, 22, 20, 18, 16};
     size_t i;
-    for (i = 0; i < most; i++) {
-        unsigned length = lengths[any() % 10];
-        uint32_t near = i > 0 && any() % 2 ? (uint32_t)(keys[i - 1] >> 6) + (any() % 65536) : any();
-        keys[i] = (uint64_t)(near >> (32 - length) << (32 - length)) << 6 | length;
-    }
-    qsort(keys, most, sizeof keys[0], ascending);
+    nested(keys, most);
     for (i = 0, n = 0; i < most; i++)
         if (n == 0 || keys[n - 1] != keys[i]) keys[n++] = keys[i];
     for (i = 0; i < n; i++) hops[i] = (uint16_t)(1 + any() % 200);

@@ -1,19 +1,22 @@
-/* Import of a sorted feed. Both find a row's place by a walk from the front, so the time for a row grows with the rows before it; 10,000 rows
-   are where that stays bearable. */
+/* Import of a feed in key order, repeats beside their first row, and of its rows in any order. In key order both sides find a row's place at
+   the last key. In any order both walk from the front, so the time for a row grows with the rows before it: past 10,000 rows that stops
+   being bearable. */
 #include "in_c.h"
 #include "measure.h"
+#include "nested.h"
 #include "whelkhollow.h"
 
-#define MOST 10000u
+#define MOST 1000000u
+#define MOST_ANY_ORDER 10000u
 
 static uint8_t feed[MOST * 32], report[MOST];
-static uint64_t keys[MOST];
+static uint64_t rows[MOST], keys[MOST];
 static uint16_t hops[MOST];
 static size_t n, length;
 
 static uint64_t sum_of(struct whelk_counts c)
 {
-    return c.rows * 31 + c.taken * 7 + keys[n / 2] + hops[n / 3] + report[n - 1];
+    return c.rows * 31 + c.taken * 7 + c.repeat * 3 + keys[c.taken / 2] + hops[c.taken / 3] + report[n - 1];
 }
 
 static uint64_t ours(void)
@@ -26,14 +29,29 @@ static uint64_t in_c(void)
     return sum_of(c_import(feed, length, keys, n, hops, n, report, n));
 }
 
+static void measure(const char *inputs)
+{
+    size_t i;
+    for (i = 0, length = 0; i < n; i++)
+        length += (size_t)sprintf((char *)feed + length, "%u.%u.%u.%u/%u %u\n", (unsigned)(rows[i] >> 30), (unsigned)(rows[i] >> 22) % 256,
+                                  (unsigned)(rows[i] >> 14) % 256, (unsigned)(rows[i] >> 6) % 256, (unsigned)rows[i] % 64, 1 + any() % 65535);
+    row("import, for each row", n, inputs, ours, in_c, n);
+}
+
 int main(void)
 {
-    for (n = 100; n <= MOST; n *= 10) {
+    for (n = 1000; n <= MOST; n *= 10) {
         size_t i;
-        for (i = 0, length = 0; i < n; i++)
-            length += (size_t)sprintf((char *)feed + length, "%u.%u.%u.0/24 %u\n", 1 + (unsigned)i / 256, (unsigned)i % 256, any() % 256,
-                                      1 + any() % 65535);
-        row("import, for each row", n, "sorted", ours, in_c, n);
+        nested(rows, n);
+        measure("sorted");
+        if (n > MOST_ANY_ORDER) continue;
+        for (i = n; i > 1; i--) {
+            size_t other = any() % i;
+            uint64_t last = rows[i - 1];
+            rows[i - 1] = rows[other];
+            rows[other] = last;
+        }
+        measure("any order");
     }
     return 0;
 }

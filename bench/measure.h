@@ -60,7 +60,7 @@ static void row(const char *what, unsigned long size, const char *inputs, work *
     qsort(a, ROUNDS, sizeof a[0], by_size);
     qsort(b, ROUNDS, sizeof b[0], by_size);
     piece = 1e9 * a[ROUNDS / 2] / (double)times;
-    printf("%-22s %9lu  %-8s %6.2f %10.1f ns %10.1f ns", what, size, inputs, a[ROUNDS / 2] / b[ROUNDS / 2], piece,
+    printf("%-22s %9lu  %-9s%6.2f %10.1f ns %10.1f ns", what, size, inputs, a[ROUNDS / 2] / b[ROUNDS / 2], piece,
            1e9 * b[ROUNDS / 2] / (double)times);
     for (i = 0; i < 8 && last[i].what && (last[i].what != what || last[i].inputs != inputs); i++) {}
     if (i < 8) {

@@ -1,0 +1,48 @@
+#!/usr/bin/env python3
+"""Writes a feed of so many rows to a file, and prints what whelk-import has to print where it reads it from standard input.
+
+The rows are in key order and their prefixes nest. Every 701st is faulty: the four faults in turn, each in a row like the last one taken.
+"""
+import sys
+
+TOP_ROOM = 1048576
+REASONS = ("shape", "range", "host bits", "repeat", "no room")
+
+
+def prefixes():
+    """A /8, the /16 in it, the /20 in each and the /24 in those, in key order."""
+    for block in range(2**16):
+        first, second = divmod(block, 256)
+        if second == 0:
+            yield f"{first}.0.0.0/8"
+        yield f"{first}.{second}.0.0/16"
+        for third in range(256):
+            if third % 16 == 0:
+                yield f"{first}.{second}.{third}.0/20"
+            yield f"{first}.{second}.{third}.0/24"
+
+
+def fault(i, last):
+    """The i-th faulty row, and what is wrong with it."""
+    rows = (last + "  7", last + " 65536", last.replace(".0/", ".1/") + " 7", last + " 7")
+    return rows[i % 4], REASONS[i % 4]
+
+
+rows, good, last, taken = int(sys.argv[1]), prefixes(), "", 0
+refused = dict.fromkeys(REASONS, 0)
+with open(sys.argv[2], "w", encoding="ascii") as feed:
+    for line in range(1, rows + 1):
+        if line % 701 == 0:
+            row, why = fault(line // 701, last)
+        else:
+            prefix = next(good)
+            row, why = f"{prefix} {1 + line % 65535}", "no room"
+            if taken < TOP_ROOM:
+                last, taken, why = prefix, taken + 1, None
+        feed.write(row + "\n")
+        if why:
+            refused[why] += 1
+            print(f"-:{line}: {why}: {row}")
+print(f"rows {rows}\ntaken {taken}")
+for why in REASONS:
+    print(why.replace(" ", ""), refused[why])
