@@ -13,7 +13,7 @@ static size_t n;
 
 static uint64_t sum_of(uint64_t built)
 {
-    return built * 31 + starts[built / 2] + run_hops[built / 3];
+    return built + 3 * written(starts, sizeof starts) + 5 * written(run_hops, sizeof run_hops);
 }
 
 static uint64_t ours(void)

@@ -14,14 +14,25 @@ static uint64_t rows[MOST], keys[MOST];
 static uint16_t hops[MOST];
 static size_t n, length;
 
+/* Where C hands the place for a returned struct over otherwise than x86-64 does, the library's code has it as the first argument still. */
+#ifdef __x86_64__
+#define IMPORT(c, ...) c = whelk_import(__VA_ARGS__)
+#else
+struct whelk_counts *import_at(struct whelk_counts *, const uint8_t *, size_t, uint64_t *, size_t, uint16_t *, size_t, uint8_t *, size_t)
+    __asm__("whelk_import");
+#define IMPORT(c, ...) import_at(&c, __VA_ARGS__)
+#endif
+
 static uint64_t sum_of(struct whelk_counts c)
 {
-    return c.rows * 31 + c.taken * 7 + c.repeat * 3 + keys[c.taken / 2] + hops[c.taken / 3] + report[n - 1];
+    return written(keys, sizeof keys) + 3 * written(hops, sizeof hops) + 5 * written(report, sizeof report) + 7 * written(&c, sizeof c);
 }
 
 static uint64_t ours(void)
 {
-    return sum_of(whelk_import(feed, length, keys, n, hops, n, report, n));
+    struct whelk_counts c;
+    IMPORT(c, feed, length, keys, n, hops, n, report, n);
+    return sum_of(c);
 }
 
 static uint64_t in_c(void)

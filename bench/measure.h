@@ -5,6 +5,7 @@
 #include <stdint.h>
 #include <stdio.h>
 #include <stdlib.h>
+#include <string.h>
 #include <time.h>
 
 #define ROUNDS 15
@@ -32,7 +33,22 @@ static int by_size(const void *a, const void *b)
     return (x > y) - (x < y);
 }
 
-/* Work: `times` pieces, and a sum of what came out, by which the two are held to the same answers. */
+/* While this is set, the two sides are held to the same answers and not timed. */
+static int agreeing;
+
+/* A sum of what was written to lent memory, which is then wiped, so that the other side has to write it too; 0 while times are taken. */
+static inline uint64_t written(void *memory, size_t length)
+{
+    uint8_t *bytes = memory;
+    uint64_t sum = 0;
+    size_t i;
+    if (!agreeing) return 0;
+    for (i = 0; i < length; i++) sum = sum * 31 + bytes[i];
+    memset(bytes, 0, length);
+    return sum;
+}
+
+/* Work: `times` pieces, and a sum of what came out. */
 typedef uint64_t work(void);
 
 /* Round by round, ours and then C's; the row has the ratio of their median times, each one's time for a piece, and how our time for a piece
@@ -45,10 +61,13 @@ static void row(const char *what, unsigned long size, const char *inputs, work *
     } last[8];
     double a[ROUNDS], b[ROUNDS], piece;
     int i;
+    agreeing = 1;
+    ours();
     if (ours() != in_c()) {
         printf("%s, %lu, %s: the answers differ\n", what, size, inputs);
         exit(1);
     }
+    agreeing = 0;
     for (i = 0; i < ROUNDS; i++) {
         double t0 = seconds(), t1;
         ours();
