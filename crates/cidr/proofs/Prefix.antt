@@ -11,7 +11,7 @@ use lib.Dec.{leb, ltb, eqb}
 use lib.Pow.{pow-pos, pow-add, mod-pow-add}
 use borrow.Author.Tests.{leb-true, ltb-true, eqb-true, le-leb, lt-ltb, eq-eqb}
 use Rattle.ground.proofs.Truth.{and-left, and-right, and-both}
-use Rattle.cidr.specs.Prefix.{addresses, keyOf, network, lengthOf, size, hostBits, isPrefix, holds, covers}
+use Rattle.cidr.specs.Prefix.{addresses, keyOf, network, lengthOf, size, endOf, hostBits, isPrefix, holds, covers}
 
 pub size-pos : (len : ℕ) → 0 < size len
 unfolding size
@@ -75,7 +75,7 @@ same-key k k′ a e h h′ =
 pub holds-from : (key a : ℕ) → holds key a ≡ true → network key ≤ a
 holds-from key a e = subst (λ n. n ≤ a) (holds-is key a e) (omega arith)
 
-pub holds-to : (key a : ℕ) → holds key a ≡ true → a < network key + size (lengthOf key)
+pub holds-to : (key a : ℕ) → holds key a ≡ true → a < endOf key
 holds-to key a e = omega (arith, holds-is key a e, host-bits-lt (lengthOf key) a, host-bits-le (lengthOf key) a)
 
 -- and all of that is held
@@ -83,7 +83,7 @@ host-bits-past : (len net d : ℕ) → hostBits len net ≡ 0 → d < size len �
 unfolding hostBits
 host-bits-past len net d e h = sym (mod-add-mod net (size len) d) ∙ (ap (λ x. (x + d) % size len) e ∙ (ap (λ x. x % size len) (zero-add d) ∙ mod-eq-of-lt h))
 
-pub within-holds : (key a : ℕ) → Prefix key → network key ≤ a → a < network key + size (lengthOf key) → holds key a ≡ true
+pub within-holds : (key a : ℕ) → Prefix key → network key ≤ a → a < endOf key → holds key a ≡ true
 unfolding holds
 within-holds key a p from to = eq-eqb _ _ (subst (λ x. x - hostBits (lengthOf key) x ≡ network key) there step)
   where
@@ -128,7 +128,7 @@ host-bits-end len len′ a h =
     rw e (block-end a ((32 - len) - (32 - len′)) (32 - len′))
 
 pub ends-earlier : (k k′ a : ℕ) → k < k′ → holds k a ≡ true → holds k′ a ≡ true
-    → network k′ + size (lengthOf k′) ≤ network k + size (lengthOf k)
+    → endOf k′ ≤ endOf k
 ends-earlier k k′ a lt h h′ =
     let ends = host-bits-end (lengthOf k) (lengthOf k′) a (le-of-lt (longer-later k k′ a lt h h′)) in
     omega (arith, holds-is k a h, holds-is k′ a h′, host-bits-le (lengthOf k) a, host-bits-le (lengthOf k′) a)

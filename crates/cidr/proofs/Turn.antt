@@ -8,7 +8,7 @@ use native.Mathlib.Omega.{arith}
 use lib.Dec.{eqb}
 use lib.Pow.{pow-pos}
 use borrow.Author.Tests.{ne-eqb}
-use Rattle.cidr.specs.Prefix.{network, lengthOf, size, hostBits, holds}
+use Rattle.cidr.specs.Prefix.{network, lengthOf, size, endOf, hostBits, holds}
 
 -- from b to the number after it, the beginning of the number's block of s numbers changes only if a block begins with that number
 base-stays : (s b net : ℕ) → 0 < s → (suc b ≡ net → ⊥) → (suc b ≡ net + s → ⊥) → eqb (suc b - suc b % s) net ≡ eqb (b - b % s) net
@@ -22,7 +22,7 @@ base-stays s b net pos start end = ⊎-elim begins stays (eq-or-lt-of-le (mod-lt
     stays : suc (b % s) < s → eqb (suc b - suc b % s) net ≡ eqb (b - b % s) net
     stays lt = rw (suc-mod, mod-eq-of-lt, suc-sub-suc)
 
-pub holds-stays : (key a : ℕ) → (a ≡ network key → ⊥) → (a ≡ network key + size (lengthOf key) → ⊥) → holds key a ≡ holds key (a - 1)
+pub holds-stays : (key a : ℕ) → (a ≡ network key → ⊥) → (a ≡ endOf key → ⊥) → holds key a ≡ holds key (a - 1)
 unfolding holds hostBits size
 holds-stays key zero start end = refl
 holds-stays key (suc a) start end =

@@ -27,6 +27,10 @@ lengthOf key = key % 64
 unfoldable pub size : ℕ → ℕ
 size len = 2 ^ (32 - len)
 
+-- one past the last address that a prefix holds
+abbrev pub endOf : ℕ → ℕ
+endOf key = network key + size (lengthOf key)
+
 -- the bits of an address beyond the length, as a number: the low 32 - length bits
 unfoldable pub hostBits : ℕ → ℕ → ℕ
 hostBits len a = a % size len

@@ -1,7 +1,7 @@
 // Addresses, prefixes and keys as CIDR (RFC 4632) has them: what a prefix is, and which addresses it holds.
 ghost use mathlib.Core.Path.{_≡_};
 ghost use Prim.Native.Nat.{_+_, _-_, _*_, _/_, _^_, _≤_};
-ghost use Rattle.cidr.specs.Prefix.{isPrefix, holds, network, lengthOf, size};
+ghost use Rattle.cidr.specs.Prefix.{isPrefix, holds, network, endOf};
 
 // A number with its low `bits` bits set to 0.
 fn cleared(x: u64, bits: u64) -> u64
@@ -50,7 +50,7 @@ pub fn network(key: u64) -> u64
 
 // One past the last address of a key's prefix, which for a prefix that reaches 255.255.255.255 is 2^32.
 pub fn end_of(key: u64) -> u64
-    ensures { λ r. ⌜ r ≡ network key + size (lengthOf key) ⌝ }
+    ensures { λ r. ⌜ r ≡ endOf key ⌝ }
 {
     let one: u64 = 1;
     key / 64 + (one << host_bits(key % 64))

@@ -1,20 +1,20 @@
 -- "Both check the whole pair, in the order above, before they write anything. 13 is given exactly when the edited list exceeds its room or
--- its run table exceeds the runs' room." "15: an edit's length is over 32, host bits are set, or an announced hop is 0."
+-- its run table exceeds the runs' room." 15 where "an edit's length is over 32, host bits are set, or an announced hop is 0".
 -- An edit names its prefix by a network, a u32, and a length.
 -- Assumes nothing.
 use mathlib.Core.Bool.{Bool, not, _||_}
-use mathlib.Core.List.{List, [], _∷_}
+use mathlib.Core.List.{List, [], _∷_, _++_}
 use Prim.Native.Nat.{ℕ}
 use lib.ListN.{length}
 use lib.Dec.{ltb, eqb}
-use Rattle.ground.specs.Numbers.{Check, check, firstFault, ifDone, ifAccepted, badEdit, illFormed, notItsRuns, notListed, noRoom}
+use Rattle.ground.specs.Numbers.{Check, check, firstFault, ifDone, ifAccepted, badEdit, notListed, noRoom}
 use Rattle.ground.specs.Slots.{rewritten}
 use Rattle.cidr.specs.Prefix.{keyOf, isPrefix}
 use Rattle.routes.specs.Row.{Row, listRoom, keysOf, hopsOf}
 use Rattle.routes.specs.Change.{listed, announced, withdrawn, changedBetween}
 use Rattle.runs.specs.Table.{runStarts, runHops}
 use Rattle.runs.specs.Build.{runRoom}
-use Rattle.runs.specs.Pair.{Pair, listOf, pairIll, itsRuns}
+use Rattle.runs.specs.Pair.{Pair, listOf, pairChecks}
 
 -- the network and the length that an edit names aren't a prefix: the length is over 32 or host bits are set
 unfoldable pub badPrefix : ℕ → ℕ → Bool
@@ -57,9 +57,8 @@ afterAnnounce net len hop p = announced (keyOf net len) hop (listOf p)
 unfoldable pub announceChecks : ℕ → ℕ → ℕ → Pair → List Check
 announceChecks net len hop p =
     check (badPrefix net len || eqb hop 0) badEdit
-    ∷ check (pairIll p) illFormed
-    ∷ check (not (itsRuns p)) notItsRuns
-    ∷ check (exceeds (afterAnnounce net len hop p) p) noRoom
+    ∷ pairChecks p
+    ++ check (exceeds (afterAnnounce net len hop p) p) noRoom
     ∷ []
 
 unfoldable pub announce : ℕ → ℕ → ℕ → Pair → Edited
@@ -72,9 +71,8 @@ afterWithdraw net len p = withdrawn (keyOf net len) (listOf p)
 unfoldable pub withdrawChecks : ℕ → ℕ → Pair → List Check
 withdrawChecks net len p =
     check (badPrefix net len) badEdit
-    ∷ check (pairIll p) illFormed
-    ∷ check (not (itsRuns p)) notItsRuns
-    ∷ check (not (listed (keyOf net len) (listOf p))) notListed
+    ∷ pairChecks p
+    ++ check (not (listed (keyOf net len) (listOf p))) notListed
     ∷ check (exceeds (afterWithdraw net len p) p) noRoom
     ∷ []
 

@@ -107,12 +107,12 @@ valuesOf ns = inPlaces (map (valueFrom 0) ns)
 abbrev pub addressOf : Values → ℕ
 addressOf v = dotted (v .a) (v .b) (v .c) (v .d)
 
--- "range: an octet over 255, length over 32, hop 0 or over 65,535"
+-- range: "an octet over 255, length over 32, hop 0 or over 65,535"
 unfoldable pub outOfRange : Values → Bool
 outOfRange v =
     (ltb 255 (v .a) || ltb 255 (v .b) || ltb 255 (v .c) || ltb 255 (v .d)) || ltb 32 (v .len) || (eqb (v .hop) 0 || ltb 65535 (v .hop))
 
--- "host bits: a bit of the address beyond the length is 1"
+-- host bits: "a bit of the address beyond the length is 1"
 unfoldable pub hasHostBits : Values → Bool
 hasHostBits v = not (eqb (hostBits (v .len) (addressOf v)) 0)
 

@@ -1,4 +1,4 @@
--- "Keep low = 0 and high = n; while they are more than 1 apart, probe the place (low + high) div 2, which becomes low if its start
+-- "keep low = 0 and high = n; while they are more than 1 apart, probe the place (low + high) div 2, which becomes low if its start
 -- is at most the address, else high": over any function `at` from places to starts. It ends with the place low, whose hop is the answer,
 -- and the number of probes.
 -- Assumes nothing.

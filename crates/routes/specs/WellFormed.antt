@@ -1,4 +1,4 @@
--- "11: a list or table is ill-formed: count beyond its slices or its top room, key not a prefix, list hop 0, keys not ascending", for a list.
+-- 11 where "a list or table is ill-formed: count beyond its slices or its top room, key not a prefix, list hop 0, keys not ascending", for a list.
 -- Assumes nothing.
 use mathlib.Core.Bool.{Bool, true, false, not, _&&_}
 use mathlib.Core.List.{List}

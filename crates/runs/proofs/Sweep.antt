@@ -18,13 +18,13 @@ use lib.Dec.{leb, ltb}
 use borrow.Author.Tests.{leb-true, leb-false, ltb-true, ltb-false, lt-ltb, le-ltb}
 use Rattle.ground.proofs.Truth.{never-both, decided, and-left, and-right}
 use Rattle.ground.specs.Column.{below, ascends}
-use Rattle.cidr.specs.Prefix.{network, lengthOf, isPrefix, holds}
+use Rattle.cidr.specs.Prefix.{network, lengthOf, endOf, isPrefix, holds}
 use Rattle.cidr.proofs.Prefix.{prefix-parts, within-holds, holds-from, holds-to, longer-later, ends-earlier, size-pos}
 use Rattle.routes.specs.Row.{Row, row, rowsOf, keysOf, every, keepRow, those}
 use Rattle.routes.specs.WellFormed.{prefixes, ascending, halfRows}
 use Rattle.routes.specs.Plain.{matching}
 use Rattle.routes.proofs.Columns.{keys-of-rows}
-use Rattle.runs.specs.Sweep.{From, lastOr, endOf, endsOf, allRows, answer, Sorted, Stack, Falling, Closed, Poised, Event, Turned}
+use Rattle.runs.specs.Sweep.{From, lastOr, endsOf, allRows, answer, Sorted, Stack, Falling, Closed, Poised, Event, Turned}
 
 -- the row at a place
 abbrev rowAt : List ℕ → List ℕ → ℕ → Row

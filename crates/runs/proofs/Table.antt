@@ -14,7 +14,7 @@ use Rattle.ground.specs.Stretch.{counted, turns}
 use Rattle.ground.specs.Stretch.Picks.{Picks, picks, picks-front, only-picks}
 use Rattle.ground.specs.Stretch.Count.{counted-is, counted-le, counted-or-le, counted-point-le}
 use Rattle.ground.specs.Stretch.Turns.{turns-at-zero, turns-of-ne, stays-of-same, same-between-turns}
-use Rattle.cidr.specs.Prefix.{addresses, network, lengthOf, size}
+use Rattle.cidr.specs.Prefix.{addresses, network, endOf}
 use Rattle.cidr.proofs.Turn.{holds-stays}
 use Rattle.routes.specs.Row.{Row, those}
 use Rattle.ground.proofs.Truth.{or-neither, or-cases}
@@ -107,7 +107,7 @@ only-table f starts hops t = (same-starts, rw (← same-starts) same-hops)
 -- the addresses at which the plain answer may turn: 0, and each prefix's network and one past its end
 abbrev edge : List Row → ℕ → Bool
 edge [] a = eqb a 0
-edge (r ∷ rs) a = eqb a (network (r .key)) || (eqb a (network (r .key) + size (lengthOf (r .key))) || edge rs a)
+edge (r ∷ rs) a = eqb a (network (r .key)) || (eqb a (endOf (r .key)) || edge rs a)
 
 -- at any other address the same rows match as one before
 same-off-edge : (rows : List Row) (a : ℕ) → edge rows a ≡ false → (0 < a) × (matching a rows ≡ matching (a - 1) rows)
@@ -115,7 +115,7 @@ unfolding matching those
 same-off-edge [] a e = (omega (arith, eqb-false a 0 e), refl)
 same-off-edge (r ∷ rs) a e =
     let start = or-neither (eqb a (network (r .key))) _ e in
-    let end = or-neither (eqb a (network (r .key) + size (lengthOf (r .key)))) _ (start .1) in
+    let end = or-neither (eqb a (endOf (r .key))) _ (start .1) in
     let rest = same-off-edge rs a (end .1) in
     let holds-same = holds-stays (r .key) a (eqb-false _ _ (start .0)) (eqb-false _ _ (end .0)) in
     (rest .0, rw (holds-same, rest .1))
@@ -134,7 +134,7 @@ edges-at-most : (rows : List Row) (lo n : ℕ) → counted (edge rows) lo n ≤ 
 edges-at-most [] lo n = counted-point-le 0 lo n
 edges-at-most (r ∷ rs) lo n =
     let net = network (r .key) in
-    let end = net + size (lengthOf (r .key)) in
+    let end = endOf (r .key) in
     let later : ℕ → Bool = λ a. eqb a end || edge rs a in
     let both = counted-or-le (edge (r ∷ rs)) (λ a. eqb a net) later lo n (λ a ge lt. or-cases (eqb a net) (later a)) in
     let rest = counted-or-le later (λ a. eqb a end) (edge rs) lo n (λ a ge lt. or-cases (eqb a end) (edge rs a)) in

@@ -1,5 +1,5 @@
 -- "Lent u32 starts and u16 hops .. room is the lesser slice length, at most 2,097,153. A build leaves slots past its count unchanged."
--- "13: the answer needs more room than was lent."
+-- 13 where "the answer needs more room than was lent".
 -- Assumes nothing.
 use mathlib.Core.Bool.{not}
 use mathlib.Core.List.{List, [], _∷_}

@@ -1,4 +1,4 @@
--- "Run bytes: 4 bytes of start and 2 of hop for each run, high byte first."
+-- "run bytes: 4 bytes of start and 2 of hop for each run, high byte first"
 -- Assumes nothing.
 use mathlib.Core.List.{List, [], _∷_}
 use Prim.Native.Nat.{ℕ, _+_, _*_, _/_, _%_}

@@ -1,4 +1,4 @@
--- A list and a run table that are handed in together. "14: the run table isn't exactly that of the list."
+-- A list and a run table that are handed in together: 14 where "the run table isn't exactly that of the list".
 -- A count of runs beyond its slices or its top room is 11, as for a list; every other difference is 14.
 -- Assumes nothing.
 use mathlib.Core.Bool.{Bool, not, _&&_, _||_}
@@ -32,7 +32,7 @@ pairIll p = not (wellFormed (p .count) (p .keys) (p .hops)) || ltb (runRoom (p .
 unfoldable pub itsRuns : Pair → Bool
 itsRuns p = same (take (p .runs) (p .starts)) (runStarts (listOf p)) && same (take (p .runs) (p .rhops)) (runHops (listOf p))
 
--- the pair check: edits and packing begin with it
+-- the pair check: packing begins with it, and edits make it after 15
 unfoldable pub pairChecks : Pair → List Check
 pairChecks p = check (pairIll p) illFormed ∷ check (not (itsRuns p)) notItsRuns ∷ []
 

@@ -9,7 +9,7 @@ use lib.ListN.{length, getD, take}
 use lib.Dec.{ltb}
 use Rattle.ground.specs.Slots.{written, same}
 use Rattle.ground.specs.Stretch.{picked, counted, turns}
-use Rattle.cidr.specs.Prefix.{network, lengthOf, size}
+use Rattle.cidr.specs.Prefix.{network, endOf}
 use Rattle.routes.specs.Row.{Row, rowsOf, hopsOf}
 use Rattle.routes.specs.WellFormed.{halfRows}
 use Rattle.routes.specs.Plain.{matching}
@@ -23,10 +23,7 @@ unfoldable pub lastOr : ℕ → List ℕ → ℕ
 lastOr h [] = h
 lastOr h (x ∷ xs) = lastOr x xs
 
--- one past the last address of a key's prefix
-abbrev pub endOf : ℕ → ℕ
-endOf key = network key + size (lengthOf key)
-
+-- one past the last address of each row's prefix
 abbrev pub endsOf : List Row → List ℕ
 endsOf rows = map (λ r. endOf (r .key)) rows
 
@@ -59,7 +56,7 @@ pub record Stack (keys hops ends labels : List ℕ) (row depth at next : ℕ) : 
   pub ends-room : length ends ≡ 33
   pub labels-room : length labels ≡ 33
 
--- the first `depth` ends fall, or stay, from each to the next
+-- at most 33 prefixes are open, and their ends fall, or stay, from each to the next
 pub record Falling (ends : List ℕ) (depth : ℕ) : Type 0 where
   pub few : depth ≤ 33
   pub falls : (i j : ℕ) → i ≤ j → j < depth → getD ends j 0 ≤ getD ends i 0
@@ -70,21 +67,23 @@ pub record Closed (ends : List ℕ) (depth b d : ℕ) : Type 0 where
   pub kept : (i : ℕ) → i < d → b < getD ends i 0
   pub gone : (i : ℕ) → d ≤ i → i < depth → getD ends i 0 ≤ b
 
--- before the next event: the next row and the end of the last open prefix are past the address
+-- before the next event: the address is below the limit, at most 33 prefixes are open, and the next row and the end of the last open prefix
+-- are past the address
 pub record Poised (keys ends : List ℕ) (row depth at limit : ℕ) : Type 0 where
   pub before : at < limit
   pub few : depth ≤ 33
   pub row-past : row < length keys → at < network (getD keys row 0)
   pub end-past : 0 < depth → at < getD ends (depth - 1) 0
 
--- b is past the address and at most the limit, the next row's network and the end of the last open prefix
+-- b is past the address, and no row begins, no open prefix ends and the limit isn't reached before it
 pub record Event (keys ends : List ℕ) (row depth at limit b : ℕ) : Type 0 where
   pub past : at < b
   pub upto : b ≤ limit
   pub row-to : row < length keys → b ≤ network (getD keys row 0)
   pub end-to : 0 < depth → b ≤ getD ends (depth - 1) 0
 
--- from `at` the sweep went on to at′: between them the answer is what it was, and at′ is the limit, or the answer turns there
+-- from `at` the sweep went on to at′: between them the answer is what it was, and at′ is the limit, or the answer turns there and the stack is
+-- that of at′
 pub record Turned (keys hops ends labels : List ℕ) (base limit at row depth at′ : ℕ) : Type 0 where
   pub past : at < at′
   pub upto : at′ ≤ limit

@@ -1,6 +1,6 @@
 -- "Lookup uses the address's low 16 bits only, and the lent slice lengths are the counts of words, bases and hops. Lookup: block b, word
 -- b div 16; place = base + ones in that word's bits 0 to b mod 16, minus 1. A place below 0 or past the hops is 19."
--- "19: packed lookup would leave its slices, or width over 16."
+-- 19 where "packed lookup would leave its slices, or width over 16".
 -- Assumes nothing.
 use mathlib.Core.Bool.{_||_}
 use mathlib.Core.List.{List, [], _∷_}

@@ -1,13 +1,12 @@
 -- What packing returns and leaves. "Packing checks list and runs (11, 14)"; 13 where a lent slice is shorter than what goes into it.
 -- Assumes nothing.
-use mathlib.Core.Bool.{not}
-use mathlib.Core.List.{List, [], _∷_}
+use mathlib.Core.List.{List, [], _∷_, _++_}
 use Prim.Native.Nat.{ℕ}
 use lib.ListN.{length}
 use lib.Dec.{ltb}
-use Rattle.ground.specs.Numbers.{Check, check, firstFault, ifDone, ifAccepted, illFormed, notItsRuns, noRoom}
+use Rattle.ground.specs.Numbers.{Check, check, firstFault, ifDone, ifAccepted, noRoom}
 use Rattle.ground.specs.Slots.{written}
-use Rattle.runs.specs.Pair.{Pair, listOf, pairIll, itsRuns}
+use Rattle.runs.specs.Pair.{Pair, listOf, pairChecks}
 use Rattle.segment.specs.Packed.{width, wordsOf, basesOf, packedHopsOf}
 
 -- the three slices that a packing is lent for words, bases and hops
@@ -18,9 +17,8 @@ pub record Lent : Type 0 where
 
 unfoldable pub packChecks : ℕ → Pair → Lent → List Check
 packChecks q p l =
-    check (pairIll p) illFormed
-    ∷ check (not (itsRuns p)) notItsRuns
-    ∷ check (ltb (length (l .words)) (length (wordsOf q (listOf p)))) noRoom
+    pairChecks p
+    ++ check (ltb (length (l .words)) (length (wordsOf q (listOf p)))) noRoom
     ∷ check (ltb (length (l .bases)) (length (basesOf q (listOf p)))) noRoom
     ∷ check (ltb (length (l .hops)) (length (packedHopsOf q (listOf p)))) noRoom
     ∷ []
