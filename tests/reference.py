@@ -1,71 +1,100 @@
 #!/usr/bin/env python3
-"""A reference for the tests: document 01's rules in Python's standard library, another way than the library's and with none of its code.
+"""A reference for the tests: document 01's rules for feeds, plain lookup, run tables and the program, in Python's standard library. It was
+written from the document alone, by a hand that had seen none of the library; made to be read against the document, not to be quick.
 
-As a program it reads a feed from standard input and writes what the program `whelk` has to write.
+A prefix is a pair (network, length), a route a triple (network, length, hop). As a program it reads a feed from standard input and writes
+what the program `whelk` has to write.
 """
 import re
 import sys
 
-TOP_ROOM = 1048576
-FORM = re.compile(rb"([0-9]{1,3})\.([0-9]{1,3})\.([0-9]{1,3})\.([0-9]{1,3})/([0-9]{1,2}) ([0-9]{1,5})")
-NAMES = ("rows", "taken", "shape", "range", "hostbits", "repeat", "noroom")
+NAMES = ["rows", "taken", "shape", "range", "hostbits", "repeat", "noroom"]
+
+TAKEN, SHAPE, RANGE, HOST_BITS, REPEAT, NO_ROOM = range(6)
+
+SPACE = 2 ** 32          # an address is a number below this
+TOP_ROOM = 1_048_576     # the most rows that any list may hold
+PROGRAM_BYTES = 16_384   # the most bytes that the program reads
+PROGRAM_ROOM = 1_024     # the program's room for rows
+
+# [0-9] and not \d, one literal space: CR, tab and further spaces fall out by themselves.
+FORM = re.compile(
+    rb"([0-9]{1,3})\.([0-9]{1,3})\.([0-9]{1,3})\.([0-9]{1,3})/([0-9]{1,2}) ([0-9]{1,5})"
+)
 
 
 def rows_of(feed):
-    """The bytes before each LF, and those after the last one if there are any."""
-    rows = feed.split(b"\n")
-    return rows if rows[-1] else rows[:-1]
+    """The rows: the bytes before each LF, and the bytes after the last LF if there are any."""
+    *ended, rest = feed.split(b"\n")
+    return ended + [rest] if rest else ended
+
+
+def size_of(length):
+    """How many addresses a prefix of this length holds."""
+    return 2 ** (32 - length)
 
 
 def read_row(row):
-    """What a row says by itself: ((network, length), hop), or its number 1, 2 or 3."""
+    """The prefix and hop of a good row, else its row number: 1 shape, 2 range, 3 host bits."""
     form = FORM.fullmatch(row)
-    if not form:
-        return 1
-    *octets, length, hop = (int(digits) for digits in form.groups())
-    if max(octets) > 255 or length > 32 or not 1 <= hop <= 65535:
-        return 2
-    network = int.from_bytes(bytes(octets), "big")
-    if network % 2 ** (32 - length):
-        return 3
+    if form is None:
+        return SHAPE
+    a, b, c, d, length, hop = (int(digits, 10) for digits in form.groups())
+    if max(a, b, c, d) > 255 or length > 32 or not 1 <= hop <= 65_535:
+        return RANGE
+    network = ((a * 256 + b) * 256 + c) * 256 + d
+    if network % size_of(length) != 0:
+        return HOST_BITS
     return (network, length), hop
 
 
 def import_feed(feed, room):
-    """The number of each row, and the list: (network, length, hop) in list order."""
-    taken, numbers = {}, []
+    """Each row's number in order, and the list that import from an empty list leaves behind."""
+    room = min(room, TOP_ROOM)
+    numbers, taken = [], {}
     for row in rows_of(feed):
-        read = read_row(row)
-        if isinstance(read, int):
-            numbers.append(read)
-        elif read[0] in taken:
-            numbers.append(4)
-        elif len(taken) >= min(room, TOP_ROOM):
-            numbers.append(5)
+        said = read_row(row)
+        if isinstance(said, int):
+            numbers.append(said)
+            continue
+        prefix, hop = said
+        if prefix in taken:
+            numbers.append(REPEAT)
+        elif len(taken) >= room:
+            numbers.append(NO_ROOM)
         else:
-            taken[read[0]] = read[1]
-            numbers.append(0)
-    return numbers, [(network, length, hop) for (network, length), hop in sorted(taken.items())]
+            numbers.append(TAKEN)
+            taken[prefix] = hop
+    ordered = sorted(taken, key=lambda prefix: prefix[0] * 64 + prefix[1])
+    return numbers, [(network, length, taken[network, length]) for network, length in ordered]
 
 
 def counts_of(numbers):
-    """The seven counts: rows, taken, and numbers 1 to 5."""
-    return [len(numbers)] + [numbers.count(number) for number in range(6)]
+    """The seven counts: rows, taken, and how many rows have each of the numbers 1 to 5."""
+    return [len(numbers)] + [numbers.count(n) for n in range(TAKEN, NO_ROOM + 1)]
 
 
 def plain(routes, address):
-    """The hop of the longest listed prefix that holds the address, or 0."""
-    held = [(length, hop) for network, length, hop in routes if network >> (32 - length) == address >> (32 - length)]
-    return max(held)[1] if held else 0
+    """Of the listed prefixes that hold the address, the longest one's hop; 0 if none does."""
+    longest, answer = -1, 0
+    for network, length, hop in routes:
+        if network <= address < network + size_of(length) and length > longest:
+            longest, answer = length, hop
+    return answer
 
 
 def runs_of(routes):
-    """The run table of a list: (start, hop), where neighbouring hops differ. An answer can change only where a prefix begins or ends."""
-    edges = {0}
+    """The run table: first start 0, starts ascending, neighbouring hops differing, each run's
+    hop the plain answer at all its addresses.
+
+    The plain answer can change only where some prefix begins, or just past where one ends.
+    """
+    places = {0}
     for network, length, _ in routes:
-        edges |= {network, network + 2 ** (32 - length)}
+        places.update((network, network + size_of(length)))
+    places.discard(SPACE)  # just past 255.255.255.255 there is no address
     runs = []
-    for start in sorted(edges - {2**32}):
+    for start in sorted(places):
         hop = plain(routes, start)
         if not runs or runs[-1][1] != hop:
             runs.append((start, hop))
@@ -73,18 +102,19 @@ def runs_of(routes):
 
 
 def dotted(address):
+    """The address as text: four decimal octets without leading zeros, dots between."""
     return ".".join(str(octet) for octet in address.to_bytes(4, "big"))
 
 
 def program_text(feed):
-    """What the program writes for a feed."""
-    if len(feed) > 16384:
+    """What the program writes for a feed: seven counts and the run table, or `feed too long`."""
+    if len(feed) > PROGRAM_BYTES:
         return "feed too long\n"
-    numbers, routes = import_feed(feed, 1024)
-    lines = [f"{name} {count}" for name, count in zip(NAMES, counts_of(numbers))]
-    lines += [f"{dotted(start)} {hop}" for start, hop in runs_of(routes)]
-    return "\n".join(lines) + "\n"
+    numbers, routes = import_feed(feed, PROGRAM_ROOM)
+    lines = [f"{name} {count}\n" for name, count in zip(NAMES, counts_of(numbers))]
+    lines += [f"{dotted(start)} {hop}\n" for start, hop in runs_of(routes)]
+    return "".join(lines)
 
 
 if __name__ == "__main__":
-    sys.stdout.write(program_text(sys.stdin.buffer.read()))
+    sys.stdout.buffer.write(program_text(sys.stdin.buffer.read()).encode("ascii"))
