@@ -23,7 +23,7 @@ pub fn is_prefix(key: u64) -> bool
     ensures { λ r. ⌜ r ≡ isPrefix key ⌝ }
 {
     let len = key % 64;
-    let net = key / 64;
+    let net = network(key);
     if 32 < len {
         return false;
     }
@@ -38,7 +38,7 @@ pub fn holds(key: u64, a: u32) -> bool
     ensures { λ r. ⌜ r ≡ holds key a ⌝ }
 {
     let len = key % 64;
-    cleared(a as u64, host_bits(len)) == key / 64
+    cleared(a as u64, host_bits(len)) == network(key)
 }
 
 // The network of a key.
@@ -53,5 +53,5 @@ pub fn end_of(key: u64) -> u64
     ensures { λ r. ⌜ r ≡ endOf key ⌝ }
 {
     let one: u64 = 1;
-    key / 64 + (one << host_bits(key % 64))
+    network(key) + (one << host_bits(key % 64))
 }

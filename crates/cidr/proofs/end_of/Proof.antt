@@ -5,6 +5,9 @@ use Rattle.cidr.proofs.end_of.Statement.{statement}
 use Rattle.cidr.proofs.end_of.Tie as tie
 use Rattle.cidr.proofs.Bits.{shifted-size, end-fits}
 
+network-requires : tie.Need-network-requires
+network-requires c κs = search needs
+
 host-bits-requires : tie.Need-host-bits-requires
 host-bits-requires c κs = search needs
 
@@ -12,10 +15,12 @@ shl-result : tie.Need-shl-result
 shl-result c = search needs
 
 add-result : tie.Need-add-result
-add-result c = rw (c .host-bits .ensures) record { fits = end-fits (c .before .args .key) (c .before .fits .key .fits) }
+add-result c =
+    rw (c .before .network .ensures, c .host-bits .ensures)
+    record { fits = end-fits (c .before .before .args .key) (c .before .before .fits .key .fits) }
 
 returns : tie.Need-returns
-returns c = rw (c .host-bits .ensures, shifted-size (c .before .args .key))
+returns c = rw (c .before .network .ensures, c .host-bits .ensures, shifted-size (c .before .before .args .key))
 
 pub end-of-spec : {M : Type 1} → statement M
-end-of-spec = tie.close (tie.spec host-bits-requires shl-result add-result returns)
+end-of-spec = tie.close (tie.spec network-requires host-bits-requires shl-result add-result returns)

@@ -11,9 +11,13 @@ host-bits-requires c κs = search needs
 cleared-requires : tie.Need-cleared-requires
 cleared-requires c κs = search needs
 
+network-requires : tie.Need-network-requires
+network-requires c κs = search needs
+
 returns : tie.Need-returns
 returns c =
-    rw (c .cleared .ensures, c .before .host-bits .ensures) (matched (c .before .before .args .key) (c .before .before .args .a))
+    rw (c .network .ensures, c .before .cleared .ensures, c .before .before .host-bits .ensures)
+    (matched (c .before .before .before .args .key) (c .before .before .before .args .a))
 
 pub holds-spec : {M : Type 1} → statement M
-holds-spec = tie.close (tie.spec host-bits-requires cleared-requires returns)
+holds-spec = tie.close (tie.spec host-bits-requires cleared-requires network-requires returns)

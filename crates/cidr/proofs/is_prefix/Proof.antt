@@ -6,11 +6,14 @@ use Rattle.cidr.proofs.is_prefix.Statement.{statement}
 use Rattle.cidr.proofs.is_prefix.Tie as tie
 use Rattle.cidr.proofs.Bits.{too-long, outside, aligned}
 
+network-requires : tie.Need-network-requires
+network-requires c κs = search needs
+
 returns : tie.Need-returns
-returns c = too-long (c .before .args .key) (omega arith)
+returns c = too-long (c .before .before .args .key) (omega arith)
 
 returns-2 : tie.Need-returns-2
-returns-2 c = outside (c .before .before .args .key) (omega arith) (omega arith)
+returns-2 c = outside (c .before .before .before .args .key) (omega arith) (omega arith)
 
 host-bits-requires : tie.Need-host-bits-requires
 host-bits-requires c κs = search needs
@@ -20,8 +23,8 @@ cleared-requires c κs = search needs
 
 returns-3 : tie.Need-returns-3
 returns-3 c =
-    rw (c .cleared .ensures, c .before .host-bits .ensures)
-    (aligned (c .before .before .before .before .args .key) (omega arith) (omega arith))
+    rw (c .cleared .ensures, c .before .host-bits .ensures, c .before .before .before .before .network .ensures)
+    (aligned (c .before .before .before .before .before .args .key) (omega arith) (omega arith))
 
 pub is-prefix-spec : {M : Type 1} → statement M
-is-prefix-spec = tie.close (tie.spec returns returns-2 host-bits-requires cleared-requires returns-3)
+is-prefix-spec = tie.close (tie.spec network-requires returns returns-2 host-bits-requires cleared-requires returns-3)
