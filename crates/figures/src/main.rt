@@ -194,8 +194,8 @@ fn import_shapes() {
     );
 }
 
-// Rows of the form whose numbers are at or past an end, and host bits.
-fn import_numbers() {
+// Rows of the form whose numbers are at or past an end.
+fn import_values() {
     import(
         b"octets",
         b"255.255.255.255/32 1\n256.0.0.0/8 1\n999.0.0.0/8 1\n1000.0.0.0/8 1\n0.0.0.256/32 1\n0.0.0.1000/32 1\n",
@@ -224,6 +224,10 @@ fn import_numbers() {
         3,
         4,
     );
+}
+
+// Host bits, and the order of faults.
+fn import_faults() {
     import(
         b"host bits",
         b"10.0.0.1/8 1\n10.0.0.1/31 1\n10.0.0.1/32 1\n128.0.0.0/0 1\n128.0.0.0/1 2\n0.0.0.1/0 1\n",
@@ -240,7 +244,7 @@ fn import_numbers() {
     );
 }
 
-// Rooms and reports.
+// Rooms.
 fn import_rooms() {
     import(
         b"slices of length 0",
@@ -272,6 +276,10 @@ fn import_rooms() {
         1,
         8,
     );
+}
+
+// Reports.
+fn import_reports() {
     import(
         b"a report as long as the rows",
         b"1.0.0.0/8 1\n\n2.0.0.0/8 2",
@@ -323,8 +331,8 @@ fn build(name: &[u8], feed: &[u8], room: usize)
     built(count, &keys, &hops, &mut starts[..room], &mut rhops[..room]);
 }
 
-// Document 01's run tables, and corners.
-fn builds() {
+// The run tables of list A.
+fn builds_of_a() {
     build(
         b"list A",
         b"200.24.0.0/14 1\n200.26.0.0/15 2\n200.27.0.0/16 3\n200.27.64.0/18 1\n200.27.112.0/20 2\n200.27.128.0/20 1\n200.27.240.0/20 2\n",
@@ -357,6 +365,10 @@ fn builds() {
           200.27.128.0/20 1\n200.27.224.0/19 3\n200.27.240.0/20 2\n",
         12,
     );
+}
+
+// Document 01's other run tables, and corners.
+fn builds_of_corners() {
     build(b"the empty list", b"", 2);
     build(b"the empty list in no slot", b"", 0);
     build(
@@ -381,7 +393,10 @@ fn main() {
     plain_answers();
     import_rows();
     import_shapes();
-    import_numbers();
+    import_values();
+    import_faults();
     import_rooms();
-    builds();
+    import_reports();
+    builds_of_a();
+    builds_of_corners();
 }
