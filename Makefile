@@ -1,5 +1,6 @@
-# `make run` runs the program on a sample feed, `make test` all tests, `make tools` builds the import tool, `make` proves and builds every crate.
+# `make run` runs the program on a sample feed or on FEED=.., `make test` all tests, `make tools` builds the import tool, `make` proves and builds every crate.
 .PHONY: all test run tools
+FEED = tests/program/sample.feed
 all:
 	rt check
 
@@ -8,7 +9,7 @@ test:
 
 run:
 	@rt check whelk >&2
-	@bash tests/program/whelk <tests/program/sample.feed
+	@bash tests/program/whelk <$(FEED)
 
 tools:
 	bash tools/build
