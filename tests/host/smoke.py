@@ -1,0 +1,50 @@
+#!/usr/bin/env python3
+"""Each export once from Python, by ctypes, of the library made into a shared one. The last line is 'N passed, M failed'."""
+import sys
+from ctypes import CDLL, Structure, c_size_t, c_uint8, c_uint16, c_uint32, c_uint64, c_void_p
+
+
+class Counts(Structure):
+    _fields_ = [(name, c_size_t) for name in ("number", "rows", "taken", "shape", "range", "hostbits", "repeat", "noroom")]
+
+
+library = CDLL(sys.argv[1])
+SLICE = (c_void_p, c_size_t)
+for name, result, arguments in (
+    ("whelk_import", Counts, 4 * SLICE),
+    ("whelk_plain_lookup", c_uint32, (c_size_t, *SLICE, *SLICE, c_uint32)),
+    ("whelk_build", c_uint64, (c_size_t, *(4 * SLICE))),
+    ("whelk_run_lookup_slices", c_uint64, (c_size_t, *SLICE, *SLICE, c_uint32)),
+    ("whelk_run_lookup", c_uint32, (*SLICE, c_uint32)),
+):
+    getattr(library, name).restype = result
+    getattr(library, name).argtypes = arguments
+
+
+def lent(*slices):
+    """Arrays as the exports take them: each one's place and length."""
+    return [word for array in slices for word in (array, len(array))]
+
+
+feed = b"10.0.0.0/8 7\n10.64.0.0/16 9\n10.0.0.1/8 7\n"
+feed = (c_uint8 * len(feed)).from_buffer_copy(feed)
+keys, hops, report = (c_uint64 * 4)(), (c_uint16 * 4)(), (c_uint8 * 4)()
+starts, run_hops = (c_uint32 * 9)(), (c_uint16 * 9)()
+counts = library.whelk_import(*lent(feed, keys, hops, report))
+answers = [
+    ([getattr(counts, name) for name, _ in Counts._fields_], [0, 3, 2, 0, 0, 1, 0, 0]),
+    (list(report), [0, 0, 3, 0]),
+    (library.whelk_build(2, *lent(keys, hops, starts, run_hops)), 5),
+    (list(zip(starts, run_hops))[:5], [(0, 0), (10 << 24, 7), (0xA400000, 9), (0xA410000, 7), (11 << 24, 0)]),
+    (library.whelk_plain_lookup(2, *lent(keys, hops), 0xA400001), 9),
+    (library.whelk_run_lookup_slices(5, *lent(starts, run_hops), 0xA400001), 2 * 2**32 + 9),
+    (library.whelk_run_lookup_slices(0, *lent(starts, run_hops), 0), 65536 * 11),
+]
+runs = b"".join(starts[i].to_bytes(4, "big") + run_hops[i].to_bytes(2, "big") for i in range(5))
+runs = (c_uint8 * len(runs)).from_buffer_copy(runs)
+answers += [(library.whelk_run_lookup(*lent(runs), 0xA410000), 7), (library.whelk_run_lookup(runs, 29, 0), 65536 * 11)]
+failed = [(got, wanted) for got, wanted in answers if got != wanted]
+for got, wanted in failed:
+    print(f"failed: {got} and not {wanted}")
+print(f"{len(answers) - len(failed)} passed, {len(failed)} failed")
+sys.exit(1 if failed else 0)
