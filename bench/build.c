@@ -26,21 +26,12 @@ static uint64_t in_c(void)
     return sum_of(c_build(n, keys, n, hops, n, starts, 2 * n + 1, run_hops, 2 * n + 1));
 }
 
-/* At most `most` prefixes in key order, each once. */
-static void list(size_t most)
-{
-    size_t i;
-    nested(keys, most);
-    for (i = 0, n = 0; i < most; i++)
-        if (n == 0 || keys[n - 1] != keys[i]) keys[n++] = keys[i];
-    for (i = 0; i < n; i++) hops[i] = (uint16_t)(1 + any() % 200);
-}
-
 int main(void)
 {
-    size_t most;
+    size_t most, i;
     for (most = 1000; most <= MOST; most *= 10) {
-        list(most);
+        n = nested_once(keys, most);
+        for (i = 0; i < n; i++) hops[i] = (uint16_t)(1 + any() % 200);
         row("build, for each row", n, "nested", ours, in_c, n);
     }
     return 0;

@@ -33,6 +33,12 @@ static int by_size(const void *a, const void *b)
     return (x > y) - (x < y);
 }
 
+static inline double median(double *times)
+{
+    qsort(times, ROUNDS, sizeof times[0], by_size);
+    return times[ROUNDS / 2];
+}
+
 /* While this is set, the two sides are held to the same answers and not timed. */
 static int agreeing;
 
@@ -53,13 +59,13 @@ typedef uint64_t work(void);
 
 /* Round by round, ours and then C's; the row has the ratio of their median times, each one's time for a piece, and how our time for a piece
    has grown from the row of the same work and inputs before it. */
-static void row(const char *what, unsigned long size, const char *inputs, work *ours, work *in_c, unsigned long times)
+static inline void row(const char *what, unsigned long size, const char *inputs, work *ours, work *in_c, unsigned long times)
 {
     static struct {
         const char *what, *inputs;
         double time;
     } last[8];
-    double a[ROUNDS], b[ROUNDS], piece;
+    double a[ROUNDS], b[ROUNDS], piece, piece_in_c;
     int i;
     agreeing = 1;
     ours();
@@ -76,11 +82,9 @@ static void row(const char *what, unsigned long size, const char *inputs, work *
         a[i] = t1 - t0;
         b[i] = seconds() - t1;
     }
-    qsort(a, ROUNDS, sizeof a[0], by_size);
-    qsort(b, ROUNDS, sizeof b[0], by_size);
-    piece = 1e9 * a[ROUNDS / 2] / (double)times;
-    printf("%-22s %9lu  %-9s%6.2f %10.1f ns %10.1f ns", what, size, inputs, a[ROUNDS / 2] / b[ROUNDS / 2], piece,
-           1e9 * b[ROUNDS / 2] / (double)times);
+    piece = 1e9 * median(a) / (double)times;
+    piece_in_c = 1e9 * median(b) / (double)times;
+    printf("%-22s %9lu  %-9s%6.2f %10.1f ns %10.1f ns", what, size, inputs, piece / piece_in_c, piece, piece_in_c);
     for (i = 0; i < 8 && last[i].what && (last[i].what != what || last[i].inputs != inputs); i++) {}
     if (i < 8) {
         if (last[i].what) printf("  x %.2f", piece / last[i].time);

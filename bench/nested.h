@@ -23,4 +23,14 @@ static void nested(uint64_t *keys, size_t n)
     qsort(keys, n, sizeof keys[0], ascending);
 }
 
+/* At most `most` keys in order, each once: how many. */
+static inline size_t nested_once(uint64_t *keys, size_t most)
+{
+    size_t i, n = 0;
+    nested(keys, most);
+    for (i = 0; i < most; i++)
+        if (n == 0 || keys[n - 1] != keys[i]) keys[n++] = keys[i];
+    return n;
+}
+
 #endif
