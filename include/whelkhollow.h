@@ -1,4 +1,4 @@
-/* Whelkhollow for C. Link libhost.a, which `rt staticlib host` proves and builds for x86-64 (libruns.a has the two run lookups alone).
+/* Whelkhollow for C. Link libhost.a, which `rt staticlib host` proves and builds for x86-64.
    Every pointer is to memory of the length that follows it, in elements and aligned for them, and isn't null even where the length is 0;
    memory that a call writes overlaps nothing else that it is lent. */
 #ifndef WHELKHOLLOW_H
