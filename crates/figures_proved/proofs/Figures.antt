@@ -5,7 +5,7 @@ use lib.Count.{ones, onesIn}
 use Rattle.ground.specs.Numbers.{firstFault, ifDone}
 use Rattle.ground.specs.Slots.{same, written, rewritten}
 use Rattle.ground.specs.Column.{ascends, insertedAt, removedAt}
-use Rattle.ground.specs.Stretch.{stretch, among, turns}
+use Rattle.ground.specs.Stretch.{stretch, among, turnsFrom}
 use Rattle.ground.specs.Halving.{halves, halving}
 use Rattle.cidr.specs.Prefix.{size, hostBits, isPrefix, holds, covers}
 use Rattle.routes.specs.Row.{every, those, rowsOf, listRoom}
@@ -33,9 +33,9 @@ use Rattle.figures_proved.specs.Marked.{marked}
 use Rattle.figures_proved.specs.Corners.{corners}
 
 pub marked-hold : T (allHold marked)
-unfolding allHold same firstFault stretch among turns size hostBits holds covers those matching longer longest plain listed announced withdrawn rowsIn digits afterDigits fieldsOf valueFrom inPlaces valuesOf outOfRange hasHostBits valueFault judgedValues judged readRow rowNumber listAfter rowNumbersFrom rowNumbers width blockHop bit wordFrom wordsOf basesFrom basesOf packedHopsOf covering relabelled firstHalf secondHalf ones onesIn
+unfolding allHold same firstFault stretch among turnsFrom size hostBits holds covers those matching longer longest plain listed announced withdrawn rowsIn digits afterDigits fieldsOf valueFrom inPlaces valuesOf outOfRange hasHostBits valueFault judgedValues judged readRow rowNumber listAfter rowNumbersFrom rowNumbers width blockHop bit wordFrom wordsOf basesFrom basesOf packedHopsOf covering relabelled firstHalf secondHalf ones onesIn
 marked-hold = tt
 
 pub corners-hold : T (allHold corners)
-unfolding lower isKey rowLength runRoom buildChecks buildNumber buildStarts pairIll pairChecks badPrefix edited announceChecks announce withdrawChecks withdraw allHold same written rewritten insertedAt removedAt firstFault ifDone stretch among turns halves halving size hostBits isPrefix holds covers every those rowsOf listRoom prefixes hopsGiven ascends ascending halfRows goodRows wellFormed halfFormed matching longer longest plain listed announced withdrawn lookupChecks lookupNumber lookupHop halfChecks halfNumber halfLabel rowsIn digits afterDigits fieldsOf valueFrom inPlaces valuesOf outOfRange hasHostBits valueFault judgedValues judged readRow rowNumber listAfter rowNumbersFrom rowNumbers importedFrom imported howMany countsOf importChecks importNumber importCounts importReport importKeys importTally pullOf pull runBytes startAt hopAt inSlices runChecks runNumber runHop runProbes inBytes hostChecks hostNumber hostHop hostAnswer width blockHop bit wordFrom wordsOf basesFrom basesOf packedHopsOf blockOf onesTo pastPlace packedChecks packedNumber packedHop covering relabelled firstHalf secondHalf splitChecks splitNumber decimalBy decimal dottedText rowText textOf writeChecks writeNumber writeBuffer lineOf countLines runLines ones onesIn
+unfolding lower isKey rowLength runRoom buildChecks buildNumber buildStarts pairIll pairChecks badPrefix edited announceChecks announce withdrawChecks withdraw allHold same written rewritten insertedAt removedAt firstFault ifDone stretch among turnsFrom halves halving size hostBits isPrefix holds covers every those rowsOf listRoom prefixes hopsGiven ascends ascending halfRows goodRows wellFormed halfFormed matching longer longest plain listed announced withdrawn lookupChecks lookupNumber lookupHop halfChecks halfNumber halfLabel rowsIn digits afterDigits fieldsOf valueFrom inPlaces valuesOf outOfRange hasHostBits valueFault judgedValues judged readRow rowNumber listAfter rowNumbersFrom rowNumbers importedFrom imported howMany countsOf importChecks importNumber importCounts importReport importKeys importTally pullOf pull runBytes startAt hopAt inSlices runChecks runNumber runHop runProbes inBytes hostChecks hostNumber hostHop hostAnswer width blockHop bit wordFrom wordsOf basesFrom basesOf packedHopsOf blockOf onesTo pastPlace packedChecks packedNumber packedHop covering relabelled firstHalf secondHalf splitChecks splitNumber decimalBy decimal dottedText rowText textOf writeChecks writeNumber writeBuffer lineOf countLines runLines ones onesIn
 corners-hold = tt

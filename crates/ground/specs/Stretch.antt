@@ -33,6 +33,10 @@ picked p lo n = among p (stretch lo n)
 pub counted : (ℕ → Bool) → ℕ → ℕ → ℕ
 counted p lo n = length (picked p lo n)
 
+-- among the numbers from the first on, f turns at a: a is the first, or f differs there from what it was one before
+unfoldable pub turnsFrom : ℕ → (ℕ → ℕ) → ℕ → Bool
+turnsFrom first f a = eqb a first || not (eqb (f a) (f (a - 1)))
+
 -- f turns at a: a is 0, or f differs there from what it was one before
-unfoldable pub turns : (ℕ → ℕ) → ℕ → Bool
-turns f a = eqb a 0 || not (eqb (f a) (f (a - 1)))
+abbrev pub turns : (ℕ → ℕ) → ℕ → Bool
+turns f = turnsFrom 0 f

@@ -13,7 +13,7 @@ use borrow.Author.Tests.{eqb-false}
 use Rattle.ground.specs.Stretch.{counted, turns}
 use Rattle.ground.specs.Stretch.Picks.{Picks, picks, picks-front, only-picks}
 use Rattle.ground.specs.Stretch.Count.{counted-is, counted-le, counted-or-le, counted-point-le}
-use Rattle.ground.specs.Stretch.Turns.{turns-at-zero, turns-of-ne, stays-of-same, same-between-turns}
+use Rattle.ground.specs.Stretch.Turns.{turns-at-first, turns-of-ne, stays-of-same, same-between-turns}
 use Rattle.cidr.specs.Prefix.{addresses, network, endOf}
 use Rattle.cidr.proofs.Turn.{holds-stays}
 use Rattle.routes.specs.Row.{Row, those}
@@ -36,11 +36,11 @@ table-of-turns f starts k = record {
   ascend = k .ascend;
   below = k .below;
   differ = differ′;
-  answers = λ i a l le lt next. getD-map f starts i l ∙ same-between-turns f addresses starts k i a l le lt next;
+  answers = λ i a l le lt next. getD-map f starts i l ∙ same-between-turns 0 f addresses starts k i a l le lt next;
 }
   where
     front : (0 < length starts) × (getD starts 0 0 ≡ 0)
-    front = picks-front (turns f) 0 addresses starts k (omega arith) (turns-at-zero f)
+    front = picks-front (turns f) 0 addresses starts k (omega arith) (turns-at-first 0 f)
 
     differ′ : (i : ℕ) → i + 1 < length starts → getD (map f starts) i 0 ≡ getD (map f starts) (i + 1) 0 → ⊥
     differ′ i l e =
@@ -49,9 +49,9 @@ table-of-turns f starts k = record {
         let lt = k .below (i + 1) l in
         let here = getD-map f starts i (omega arith) in
         let there = getD-map f starts (i + 1) l in
-        let same = same-between-turns f addresses starts k i (later - 1) (omega arith) (omega arith) (omega arith) (λ more. omega arith) in
+        let same = same-between-turns 0 f addresses starts k i (later - 1) (omega arith) (omega arith) (omega arith) (λ more. omega arith) in
         let equal : f later ≡ f (later - 1) = cc in
-        false≢true (sym (stays-of-same f later (omega arith) equal) ∙ k .pass (i + 1) l)
+        false≢true (sym (stays-of-same 0 f later (omega arith) equal) ∙ k .pass (i + 1) l)
 
 -- the starts of a run table of f are the numbers at which f turns
 turns-of-table : (f : ℕ → ℕ) (starts hops : List ℕ) → RunTable f starts hops → Picks (turns f) 0 addresses starts
@@ -71,10 +71,10 @@ turns-of-table f starts hops t = record {
         let lt = t .below (i + 1) l in
         let before = t .answers i (later - 1) (omega arith) (omega arith) (omega arith) (λ more. omega arith) in
         let here = t .answers (i + 1) later l (omega arith) lt (λ more. t .ascend (i + 1) more) in
-        turns-of-ne f later (λ e. t .differ i l (cc))
+        turns-of-ne 0 f later (λ e. t .differ i l (cc))
 
     pass′ : (i : ℕ) → i < length starts → turns f (getD starts i 0) ≡ true
-    pass′ zero l = rw (t .first) (turns-at-zero f)
+    pass′ zero l = rw (t .first) (turns-at-first 0 f)
     pass′ (suc i) l = rw add-one at (later-turns i (omega arith))
 
     between′ : (i a : ℕ) → i < length starts → getD starts i 0 < a → a < addresses → (i + 1 < length starts → a < getD starts (i + 1) 0)
@@ -82,7 +82,7 @@ turns-of-table f starts hops t = record {
     between′ i a l gt lt next =
         let before = t .answers i (a - 1) l (omega arith) (omega arith) (λ more. omega (arith, next more)) in
         let here = t .answers i a l (omega arith) lt next in
-        stays-of-same f a (omega arith) (cc)
+        stays-of-same 0 f a (omega arith) (cc)
 
 pub table-of : (f : ℕ → ℕ) → RunTable f (startsOf f) (runHopsOf f)
 unfolding runHopsOf
@@ -128,7 +128,7 @@ turns-at-edge rows a t = go (edge rows a) refl
     go true e = refl
     go false e =
         let same = same-off-edge rows a e in
-        sym (stays-of-same (plain rows) a (same .0) (rw (same .1))) ∙ t
+        sym (stays-of-same 0 (plain rows) a (same .0) (rw (same .1))) ∙ t
 
 edges-at-most : (rows : List Row) (lo n : ℕ) → counted (edge rows) lo n ≤ 2 * length rows + 1
 edges-at-most [] lo n = counted-point-le 0 lo n

@@ -1,12 +1,12 @@
--- The runs of an answer f from turn to turn: the sweep stands where f turns, or at the limit; the numbers picked before that place are the
--- starts so far, and each move to the next turn adds one. Then what counting, writing and comparing make of that, for any f.
+-- The runs of an answer f from a start on, from turn to turn: the sweep stands where f turns, or at the limit; the numbers picked from the
+-- start up to that place are the starts so far, and each move to the next turn adds one. Then what counting, writing and comparing make of
+-- that, for any f.
 -- Assumes nothing.
 use mathlib.Core.Path.{_≡_, refl, sym, ap, _∙_}
 use mathlib.Core.Bool.{Bool, true, false}
 use mathlib.Core.Logic.{⊎-elim}
 use mathlib.Core.List.{List, [], _∷_, _++_, map, map-append, append-assoc}
 use Prim.Native.Nat.{ℕ, zero, suc, _+_, _-_, _≤_, _<_}
-use native.Mathlib.Nat.{zero-add}
 use native.Mathlib.Numerals.{add-one}
 use native.Mathlib.Omega.{arith}
 use lib.ListN.{length, getD, take, set, length-append, length-map, length-set}
@@ -15,10 +15,10 @@ use lib.Dec.{eqb}
 use borrow.Author.Tests.{eqb-true, eqb-false, eq-eqb}
 use Rattle.ground.proofs.Truth.{decided, and-left, and-right, and-both, never-both}
 use Rattle.ground.specs.Slots.{written, same}
-use Rattle.ground.specs.Stretch.{picked, counted, turns}
+use Rattle.ground.specs.Stretch.{picked, counted, turnsFrom}
 use Rattle.ground.specs.Stretch.Laws.{picked-none, picked-suc, picked-cut}
 use Rattle.ground.specs.Stretch.Count.{counted-is, counted-le, counted-all, picked-at}
-use Rattle.ground.specs.Stretch.Turns.{turns-at-zero, turns-of-ne, stays-of-same}
+use Rattle.ground.specs.Stretch.Turns.{turns-at-first, turns-of-ne, stays-of-same}
 use Rattle.runs.specs.Sweep.{lastOr, allRows, answer, Sorted, Stack, Turned, RunsWritten, areRuns}
 use Rattle.runs.proofs.Table.{getD-map}
 use Rattle.runs.proofs.Sweep.{few-open, standing-answer}
@@ -28,43 +28,55 @@ picked-empty p lo zero h = picked-none p lo
 picked-empty p lo (suc n) h =
     rw (picked-suc, h lo (omega arith) (omega arith)) (picked-empty p (suc lo) n (λ a l m. h a (omega arith) (omega arith)))
 
-pub counted-at-most : (p : ℕ → Bool) (n : ℕ) → counted p 0 n ≤ n
-counted-at-most p n =
-    omega (arith, counted-le p (λ a. true) 0 n (λ a l m e. refl), counted-all (λ a. true) 0 n (λ a l m. refl))
+pub counted-at-most : (p : ℕ → Bool) (lo n : ℕ) → counted p lo n ≤ n
+counted-at-most p lo n =
+    omega (arith, counted-le p (λ a. true) lo n (λ a l m e. refl), counted-all (λ a. true) lo n (λ a l m. refl))
 
-pub counted-nothing : (p : ℕ → Bool) (at : ℕ) → at ≡ 0 → 0 ≡ counted p 0 at
-counted-nothing p at e = rw (e, counted-is, picked-none)
+-- the starts of the runs of f from the start up to b
+abbrev startsTo : ℕ → (ℕ → ℕ) → ℕ → List ℕ
+startsTo start f b = picked (turnsFrom start f) start (b - start)
+
+starts-none : (start : ℕ) (f : ℕ → ℕ) (at : ℕ) → at ≡ start → startsTo start f at ≡ []
+starts-none start f at e = let none : at - start ≡ 0 = omega arith in rw (none, picked-none)
+
+pub counted-nothing : (start : ℕ) (f : ℕ → ℕ) (at : ℕ) → at ≡ start → 0 ≡ counted (turnsFrom start f) start (at - start)
+counted-nothing start f at e = rw (counted-is, starts-none start f at e)
 
 -- from one turn to the next
-module _ (f : ℕ → ℕ) (at b : ℕ) (past : at < b) (stays : (a : ℕ) → at ≤ a → a < b → f a ≡ f at) where
-  turns-again : (f b ≡ f at → ⊥) → turns f b ≡ true
-  turns-again ne = turns-of-ne f b (λ e. ne (e ∙ stays (b - 1) (omega arith) (omega arith)))
+module _ (start : ℕ) (f : ℕ → ℕ) (at b : ℕ) (from : start ≤ at) (past : at < b) (stays : (a : ℕ) → at ≤ a → a < b → f a ≡ f at) where
+  turns-again : (f b ≡ f at → ⊥) → turnsFrom start f b ≡ true
+  turns-again ne = turns-of-ne start f b (λ e. ne (e ∙ stays (b - 1) (omega arith) (omega arith)))
 
-  picked-turn : turns f at ≡ true → picked (turns f) 0 b ≡ picked (turns f) 0 at ++ (at ∷ [])
+  picked-turn : turnsFrom start f at ≡ true → startsTo start f b ≡ startsTo start f at ++ (at ∷ [])
   picked-turn e =
-      let whole : b ≡ at + suc (b - suc at) = omega arith in
-      ap (picked (turns f) 0) whole ∙ picked-cut (turns f) 0 at (suc (b - suc at)) ∙ rw (zero-add, picked-suc, e, none-between)
+      let whole : b - start ≡ (at - start) + suc (b - suc at) = omega arith in
+      let there : start + (at - start) ≡ at = omega arith in
+      ap (picked (turnsFrom start f) start) whole ∙ picked-cut (turnsFrom start f) start (at - start) (suc (b - suc at))
+      ∙ rw (there, picked-suc, e, none-between)
     where
-      none-between : picked (turns f) (suc at) (b - suc at) ≡ []
-      none-between = picked-empty (turns f) (suc at) (b - suc at)
-          (λ a l m. stays-of-same f a (omega arith) (stays a (omega arith) (omega arith) ∙ sym (stays (a - 1) (omega arith) (omega arith))))
+      none-between : picked (turnsFrom start f) (suc at) (b - suc at) ≡ []
+      none-between = picked-empty (turnsFrom start f) (suc at) (b - suc at)
+          (λ a l m.
+          stays-of-same start f a (omega arith) (stays a (omega arith) (omega arith) ∙ sym (stays (a - 1) (omega arith) (omega arith))))
 
-  counted-turn : turns f at ≡ true → counted (turns f) 0 b ≡ counted (turns f) 0 at + 1
+  counted-turn : turnsFrom start f at ≡ true
+      → counted (turnsFrom start f) start (b - start) ≡ counted (turnsFrom start f) start (at - start) + 1
   counted-turn e = simp counted-is (rw (picked-turn e, length-append))
 
 -- The sweep at a turn of the rows' answer, or at the limit.
-pub record Sweeping (keys hops : List ℕ) (base limit : ℕ) (ends labels : List ℕ) (row depth at : ℕ) : Type 0 where
+pub record Sweeping (keys hops : List ℕ) (base start limit : ℕ) (ends labels : List ℕ) (row depth at : ℕ) : Type 0 where
   pub sorted : Sorted keys hops
+  pub from : start ≤ at
   pub upto : at ≤ limit
   pub stands : at < limit → Stack keys hops ends labels row depth at (at + 1)
-  pub turn : at < limit → turns (answer base (allRows keys hops)) at ≡ true
+  pub turn : at < limit → turnsFrom start (answer base (allRows keys hops)) at ≡ true
 
-pub sweeping-start : {keys hops ends labels : List ℕ} (base limit : ℕ) {row depth at : ℕ} → Sorted keys hops
-    → Stack keys hops ends labels row depth 0 1 → at ≡ 0 → Sweeping keys hops base limit ends labels row depth at
-sweeping-start base limit s k e =
-    rw e record { sorted = s; upto = omega arith; stands = λ l. k; turn = λ l. turns-at-zero _ }
+pub sweeping-start : {keys hops ends labels : List ℕ} (base start limit : ℕ) {row depth at : ℕ} → Sorted keys hops → start ≤ limit
+    → Stack keys hops ends labels row depth start (start + 1) → at ≡ start → Sweeping keys hops base start limit ends labels row depth at
+sweeping-start base start limit s l k e =
+    rw e record { sorted = s; from = omega arith; upto = l; stands = λ m. k; turn = λ m. turns-at-first start _ }
 
-module _ {keys hops ends labels : List ℕ} {base limit row depth at : ℕ} (w : Sweeping keys hops base limit ends labels row depth at)
+module _ {keys hops ends labels : List ℕ} {base start limit row depth at : ℕ} (w : Sweeping keys hops base start limit ends labels row depth at)
     (before : at < limit) where
   -- what the next turn is asked
   pub sweeping-asks : Sorted keys hops × Stack keys hops ends labels row depth at (at + 1) × (at < limit)
@@ -77,17 +89,18 @@ module _ {keys hops ends labels : List ℕ} {base limit row depth at : ℕ} (w :
   sweeping-top e = e ∙ sym (standing-answer (w .sorted) (w .stands before) base (omega arith))
 
   module _ {ends′ labels′ : List ℕ} {row′ depth′ at′ : ℕ} (t : Turned keys hops ends′ labels′ base limit at row′ depth′ at′) where
-    pub sweeping-on : Sweeping keys hops base limit ends′ labels′ row′ depth′ at′
+    pub sweeping-on : Sweeping keys hops base start limit ends′ labels′ row′ depth′ at′
     sweeping-on = record {
       sorted = w .sorted;
+      from = omega (arith, w .from, t .past);
       upto = t .upto;
       stands = t .stands;
-      turn = λ l. turns-again (answer base (allRows keys hops)) at at′ (t .past) (t .stays) (t .turned l);
+      turn = λ l. turns-again start (answer base (allRows keys hops)) at at′ (w .from) (t .past) (t .stays) (t .turned l);
     }
 
-    pub sweeping-counted : {n : ℕ} → n ≡ counted (turns (answer base (allRows keys hops))) 0 at
-        → n + 1 ≡ counted (turns (answer base (allRows keys hops))) 0 at′
-    sweeping-counted e = rw e (sym (counted-turn (answer base (allRows keys hops)) at at′ (t .past) (t .stays) (w .turn before)))
+    pub sweeping-counted : {n : ℕ} → n ≡ counted (turnsFrom start (answer base (allRows keys hops))) start (at - start)
+        → n + 1 ≡ counted (turnsFrom start (answer base (allRows keys hops))) start (at′ - start)
+    sweeping-counted e = rw e (sym (counted-turn start (answer base (allRows keys hops)) at at′ (w .from) (t .past) (t .stays) (w .turn before)))
 
 -- Writing: what stands in the slices are the runs before the place, and then the slots as they were.
 module _ (xs old : List ℕ) where
@@ -97,41 +110,42 @@ module _ (xs old : List ℕ) where
       rw (drop-cons old (length xs) 0 l, length-append, add-one, append-assoc)
       (set-at xs _ _ v (length xs) refl)
 
-pub record Writing (f : ℕ → ℕ) (limit at n : ℕ) (starts₀ rhops₀ starts rhops : List ℕ) : Type 0 where
-  pub room : counted (turns f) 0 limit ≤ length starts₀
-  pub hop-room : counted (turns f) 0 limit ≤ length rhops₀
+pub record Writing (f : ℕ → ℕ) (start limit at n : ℕ) (starts₀ rhops₀ starts rhops : List ℕ) : Type 0 where
+  pub room : counted (turnsFrom start f) start (limit - start) ≤ length starts₀
+  pub hop-room : counted (turnsFrom start f) start (limit - start) ≤ length rhops₀
   pub as-long : length starts ≡ length starts₀
   pub hops-as-long : length rhops ≡ length rhops₀
-  pub written-so-far : RunsWritten f at starts₀ rhops₀ n starts rhops
+  pub written-so-far : RunsWritten f start at starts₀ rhops₀ n starts rhops
 
-pub writing-start : {f : ℕ → ℕ} {limit at : ℕ} {starts rhops : List ℕ} → at ≡ 0 → counted (turns f) 0 limit ≤ length starts
-    → counted (turns f) 0 limit ≤ length rhops → Writing f limit at 0 starts rhops starts rhops
+pub writing-start : {f : ℕ → ℕ} {start limit at : ℕ} {starts rhops : List ℕ} → at ≡ start
+    → counted (turnsFrom start f) start (limit - start) ≤ length starts → counted (turnsFrom start f) start (limit - start) ≤ length rhops
+    → Writing f start limit at 0 starts rhops starts rhops
 unfolding written
-writing-start {f} e l m = rw e record {
+writing-start {f} {start} {at = at} e l m = record {
   room = l;
   hop-room = m;
   as-long = refl;
   hops-as-long = refl;
   written-so-far = record {
-    count = counted-nothing (turns f) 0 refl;
-    starts-are = rw picked-none;
-    hops-are = rw picked-none;
+    count = counted-nothing start f at e;
+    starts-are = rw (starts-none start f at e);
+    hops-are = rw (starts-none start f at e);
   };
 }
 
-pub writing-few : {f : ℕ → ℕ} {limit at n : ℕ} {starts₀ rhops₀ starts rhops : List ℕ}
-    → Writing f limit at n starts₀ rhops₀ starts rhops → n ≤ at
-writing-few {f} {at = at} w = omega (arith, w .written-so-far .count, counted-at-most (turns f) at)
+pub writing-few : {f : ℕ → ℕ} {start limit at n : ℕ} {starts₀ rhops₀ starts rhops : List ℕ}
+    → Writing f start limit at n starts₀ rhops₀ starts rhops → n ≤ at
+writing-few {f} {start} {at = at} w = omega (arith, w .written-so-far .count, counted-at-most (turnsFrom start f) start (at - start))
 
-module _ {f : ℕ → ℕ} {limit at n : ℕ} {starts₀ rhops₀ starts rhops : List ℕ} (w : Writing f limit at n starts₀ rhops₀ starts rhops)
-    (before : at < limit) (turn : turns f at ≡ true) where
-  so-far : n ≡ length (picked (turns f) 0 at)
-  so-far = w .written-so-far .count ∙ counted-is (turns f) 0 at
+module _ {f : ℕ → ℕ} {start limit at n : ℕ} {starts₀ rhops₀ starts rhops : List ℕ} (w : Writing f start limit at n starts₀ rhops₀ starts rhops)
+    (from : start ≤ at) (before : at < limit) (turn : turnsFrom start f at ≡ true) where
+  so-far : n ≡ length (startsTo start f at)
+  so-far = w .written-so-far .count ∙ counted-is (turnsFrom start f) start (at - start)
 
-  one-more : n < counted (turns f) 0 limit
+  one-more : n < counted (turnsFrom start f) start (limit - start)
   one-more =
-      rw (w .written-so-far .count, counted-is (turns f) 0 limit)
-      (picked-at (turns f) 0 limit at at (sym (zero-add at)) before turn .0)
+      rw (w .written-so-far .count, counted-is (turnsFrom start f) start (limit - start))
+      (picked-at (turnsFrom start f) start (limit - start) (at - start) at (omega arith) (omega arith) turn .0)
 
   pub start-fits : n < length starts
   start-fits = omega (arith, one-more, w .room, w .as-long)
@@ -140,30 +154,30 @@ module _ {f : ℕ → ℕ} {limit at n : ℕ} {starts₀ rhops₀ starts rhops :
   hop-fits = omega (arith, one-more, w .hop-room, w .hops-as-long)
 
   pub writing-on : {at′ hop : ℕ} → at < at′ → ((a : ℕ) → at ≤ a → a < at′ → f a ≡ f at) → hop ≡ f at
-      → Writing f limit at′ (n + 1) starts₀ rhops₀ (set starts n at) (set rhops n hop)
+      → Writing f start limit at′ (n + 1) starts₀ rhops₀ (set starts n at) (set rhops n hop)
   writing-on {at′} {hop} past stays e = record {
     room = w .room;
     hop-room = w .hop-room;
     as-long = length-set starts n at ∙ w .as-long;
     hops-as-long = length-set rhops n hop ∙ w .hops-as-long;
     written-so-far = record {
-      count = rw (w .written-so-far .count) (sym (counted-turn f at at′ past stays turn));
+      count = rw (w .written-so-far .count) (sym (counted-turn start f at at′ from past stays turn));
       starts-are =
           rw (w .written-so-far .starts-are, so-far, written-more before-it starts₀ at (omega (arith, so-far, one-more, w .room)))
-          (rw (picked-turn f at at′ past stays turn));
+          (rw (picked-turn start f at at′ from past stays turn));
       hops-are =
           rw (w .written-so-far .hops-are, e, hops-so-far, written-more (map f before-it) rhops₀ (f at) hop-below)
-          (rw (picked-turn f at at′ past stays turn, map-append));
+          (rw (picked-turn start f at at′ from past stays turn, map-append));
     };
   }
     where
       before-it : List ℕ
-      before-it = picked (turns f) 0 at
+      before-it = startsTo start f at
 
-      hops-so-far : n ≡ length (map f (picked (turns f) 0 at))
-      hops-so-far = so-far ∙ sym (length-map (picked (turns f) 0 at) f)
+      hops-so-far : n ≡ length (map f (startsTo start f at))
+      hops-so-far = so-far ∙ sym (length-map (startsTo start f at) f)
 
-      hop-below : length (map f (picked (turns f) 0 at)) < length rhops₀
+      hop-below : length (map f (startsTo start f at)) < length rhops₀
       hop-below = omega (arith, hops-so-far, one-more, w .hop-room)
 
 -- Comparing: what was passed of the slices are the runs before the place.
@@ -182,68 +196,71 @@ unfolding same
 same-self [] = refl
 same-self (x ∷ xs) = and-both (eq-eqb x x refl) (same-self xs)
 
-module _ (f : ℕ → ℕ) (limit : ℕ) (starts rhops : List ℕ) where
-  are-parts : areRuns f limit starts rhops ≡ true → (starts ≡ picked (turns f) 0 limit) × (rhops ≡ map f (picked (turns f) 0 limit))
+module _ (f : ℕ → ℕ) (start limit : ℕ) (starts rhops : List ℕ) where
+  are-parts : areRuns f start limit starts rhops ≡ true → (starts ≡ startsTo start f limit) × (rhops ≡ map f (startsTo start f limit))
   unfolding areRuns
   are-parts e =
-      let starts-same = same starts (picked (turns f) 0 limit) in
+      let starts-same = same starts (startsTo start f limit) in
       (same-is _ _ (and-left starts-same _ e), same-is _ _ (and-right starts-same _ e))
 
-  are-not : ((starts ≡ picked (turns f) 0 limit) × (rhops ≡ map f (picked (turns f) 0 limit)) → ⊥) → areRuns f limit starts rhops ≡ false
-  are-not h = ⊎-elim (λ e. absurd (h (are-parts e))) (λ e. e) (decided (areRuns f limit starts rhops))
+  are-not : ((starts ≡ startsTo start f limit) × (rhops ≡ map f (startsTo start f limit)) → ⊥) → areRuns f start limit starts rhops ≡ false
+  are-not h = ⊎-elim (λ e. absurd (h (are-parts e))) (λ e. e) (decided (areRuns f start limit starts rhops))
 
-  are-runs : starts ≡ picked (turns f) 0 limit → rhops ≡ map f (picked (turns f) 0 limit) → areRuns f limit starts rhops ≡ true
+  are-runs : starts ≡ startsTo start f limit → rhops ≡ map f (startsTo start f limit) → areRuns f start limit starts rhops ≡ true
   unfolding areRuns
-  are-runs e e′ = rw (e, e′) (and-both (same-self (picked (turns f) 0 limit)) (same-self (map f (picked (turns f) 0 limit))))
+  are-runs e e′ = rw (e, e′) (and-both (same-self (startsTo start f limit)) (same-self (map f (startsTo start f limit))))
 
-pub record Comparing (f : ℕ → ℕ) (at n : ℕ) (starts rhops : List ℕ) : Type 0 where
+pub record Comparing (f : ℕ → ℕ) (start at n : ℕ) (starts rhops : List ℕ) : Type 0 where
   pub paired : length rhops ≡ length starts
   pub within : n ≤ length starts
-  pub starts-same : take n starts ≡ picked (turns f) 0 at
-  pub hops-same : take n rhops ≡ map f (picked (turns f) 0 at)
+  pub starts-same : take n starts ≡ startsTo start f at
+  pub hops-same : take n rhops ≡ map f (startsTo start f at)
 
-pub comparing-start : {f : ℕ → ℕ} {at : ℕ} {starts rhops : List ℕ} → at ≡ 0 → length rhops ≡ length starts → Comparing f at 0 starts rhops
-comparing-start z e = rw z record { paired = e; within = omega arith; starts-same = rw picked-none; hops-same = rw picked-none }
+pub comparing-start : {f : ℕ → ℕ} {start at : ℕ} {starts rhops : List ℕ} → at ≡ start → length rhops ≡ length starts
+    → Comparing f start at 0 starts rhops
+comparing-start {f} {start} {at} z e =
+    let none = starts-none start f at z in record { paired = e; within = omega arith; starts-same = rw none; hops-same = rw none }
 
-module _ {f : ℕ → ℕ} {at n : ℕ} {starts rhops : List ℕ} (k : Comparing f at n starts rhops) where
-  passed : n ≡ length (picked (turns f) 0 at)
+module _ {f : ℕ → ℕ} {start at n : ℕ} {starts rhops : List ℕ} (k : Comparing f start at n starts rhops) where
+  passed : n ≡ length (startsTo start f at)
   passed = sym (length-take-le n starts (k .within)) ∙ ap length (k .starts-same)
 
-  pub comparing-end : eqb n (length starts) ≡ areRuns f at starts rhops
+  pub comparing-end : eqb n (length starts) ≡ areRuns f start at starts rhops
   comparing-end = ⊎-elim all short (decided (eqb n (length starts)))
     where
-      all : eqb n (length starts) ≡ true → eqb n (length starts) ≡ areRuns f at starts rhops
+      all : eqb n (length starts) ≡ true → eqb n (length starts) ≡ areRuns f start at starts rhops
       all e =
           let q : n ≡ length starts = eqb-true n (length starts) e in
-          e ∙ sym (are-runs f at starts rhops
+          e ∙ sym (are-runs f start at starts rhops
           (sym (take-all n starts (omega arith)) ∙ k .starts-same) (sym (take-all n rhops (omega (arith, k .paired))) ∙ k .hops-same))
 
-      short : eqb n (length starts) ≡ false → eqb n (length starts) ≡ areRuns f at starts rhops
-      short e = e ∙ sym (are-not f at starts rhops (λ w. eqb-false n (length starts) e (passed ∙ sym (ap length (w .0)))))
+      short : eqb n (length starts) ≡ false → eqb n (length starts) ≡ areRuns f start at starts rhops
+      short e = e ∙ sym (are-not f start at starts rhops (λ w. eqb-false n (length starts) e (passed ∙ sym (ap length (w .0)))))
 
-  module _ {limit : ℕ} (before : at < limit) (turn : turns f at ≡ true) where
-    found : (n < length (picked (turns f) 0 limit)) × (getD (picked (turns f) 0 limit) n 0 ≡ at)
+  module _ (from : start ≤ at) {limit : ℕ} (before : at < limit) (turn : turnsFrom start f at ≡ true) where
+    found : (n < length (startsTo start f limit)) × (getD (startsTo start f limit) n 0 ≡ at)
     found =
-        rw (passed, ← counted-is (turns f) 0 at) (picked-at (turns f) 0 limit at at (sym (zero-add at)) before turn)
+        rw (passed, ← counted-is (turnsFrom start f) start (at - start))
+        (picked-at (turnsFrom start f) start (limit - start) (at - start) at (omega arith) (omega arith) turn)
 
-    pub too-few : length starts ≤ n → false ≡ areRuns f limit starts rhops
-    too-few l = sym (are-not f limit starts rhops (λ w. omega (arith, found .0, ap length (w .0))))
+    pub too-few : length starts ≤ n → false ≡ areRuns f start limit starts rhops
+    too-few l = sym (are-not f start limit starts rhops (λ w. omega (arith, found .0, ap length (w .0))))
 
-    pub other-start : (getD starts n 0 ≡ at → ⊥) → false ≡ areRuns f limit starts rhops
-    other-start ne = sym (are-not f limit starts rhops (λ w. ne (ap (λ xs. getD xs n 0) (w .0) ∙ found .1)))
+    pub other-start : (getD starts n 0 ≡ at → ⊥) → false ≡ areRuns f start limit starts rhops
+    other-start ne = sym (are-not f start limit starts rhops (λ w. ne (ap (λ xs. getD xs n 0) (w .0) ∙ found .1)))
 
-    pub other-hop : (getD rhops n 0 ≡ f at → ⊥) → false ≡ areRuns f limit starts rhops
+    pub other-hop : (getD rhops n 0 ≡ f at → ⊥) → false ≡ areRuns f start limit starts rhops
     other-hop ne =
-        sym (are-not f limit starts rhops
-        (λ w. ne (ap (λ xs. getD xs n 0) (w .1) ∙ getD-map f (picked (turns f) 0 limit) n (found .0) ∙ ap f (found .1))))
+        sym (are-not f start limit starts rhops
+        (λ w. ne (ap (λ xs. getD xs n 0) (w .1) ∙ getD-map f (startsTo start f limit) n (found .0) ∙ ap f (found .1))))
 
-  pub comparing-on : {at′ : ℕ} → at < at′ → ((a : ℕ) → at ≤ a → a < at′ → f a ≡ f at) → turns f at ≡ true → n < length starts
-      → getD starts n 0 ≡ at → getD rhops n 0 ≡ f at → Comparing f at′ (n + 1) starts rhops
-  comparing-on {at′} past stays turn l e e′ = record {
+  pub comparing-on : {at′ : ℕ} → start ≤ at → at < at′ → ((a : ℕ) → at ≤ a → a < at′ → f a ≡ f at) → turnsFrom start f at ≡ true → n < length starts
+      → getD starts n 0 ≡ at → getD rhops n 0 ≡ f at → Comparing f start at′ (n + 1) starts rhops
+  comparing-on {at′} from past stays turn l e e′ = record {
     paired = k .paired;
     within = omega arith;
-    starts-same = rw (add-one, take-suc starts n 0 l, e, k .starts-same) (sym (picked-turn f at at′ past stays turn));
+    starts-same = rw (add-one, take-suc starts n 0 l, e, k .starts-same) (sym (picked-turn start f at at′ from past stays turn));
     hops-same =
         rw (add-one, take-suc rhops n 0 (omega (arith, k .paired)), e′, k .hops-same)
-        (sym (rw (picked-turn f at at′ past stays turn, map-append)));
+        (sym (rw (picked-turn start f at at′ from past stays turn, map-append)));
   }

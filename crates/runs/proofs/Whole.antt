@@ -124,7 +124,7 @@ module _ {keys hops : List ℕ} (s : Sorted keys hops) (starts rhops : List ℕ)
         let few = leb-true (length (runStarts (allRows keys hops))) (runRoom starts rhops) e in
         (omega (arith, whole-count s), omega (arith, whole-count s))
 
-    pub rows-runs : {n : ℕ} {starts′ rhops′ : List ℕ} → RunsWritten (answer 0 (allRows keys hops)) 4294967296 starts rhops n starts′ rhops′
+    pub rows-runs : {n : ℕ} {starts′ rhops′ : List ℕ} → RunsWritten (answer 0 (allRows keys hops)) 0 4294967296 starts rhops n starts′ rhops′
         → RowsBuilt (allRows keys hops) starts rhops (B.Runs n) starts′ rhops′
     rows-runs w =
         let fits = le-ltb (runRoom starts rhops) (length (runStarts (allRows keys hops))) (leb-true _ _ e) in
@@ -186,7 +186,7 @@ module _ (p : Pair) where
 
     module _ (l : p .runs ≤ runRoom (p .starts) (p .rhops)) where
       pub its : {b : Bool}
-          → b ≡ areRuns (answer 0 (allRows (take (p .count) (p .keys)) (take (p .count) (p .hops)))) 4294967296 (take (p .runs) (p .starts))
+          → b ≡ areRuns (answer 0 (allRows (take (p .count) (p .keys)) (take (p .count) (p .hops)))) 0 4294967296 (take (p .runs) (p .starts))
           (take (p .runs) (p .rhops))
           → itsRuns p ≡ b
       unfolding itsRuns areRuns

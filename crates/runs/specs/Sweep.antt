@@ -8,7 +8,7 @@ use Prim.Native.Nat.{ℕ, _+_, _-_, _≤_, _<_}
 use lib.ListN.{length, getD, take}
 use lib.Dec.{ltb}
 use Rattle.ground.specs.Slots.{written, same}
-use Rattle.ground.specs.Stretch.{picked, counted, turns}
+use Rattle.ground.specs.Stretch.{picked, counted, turnsFrom}
 use Rattle.cidr.specs.Prefix.{network, endOf}
 use Rattle.routes.specs.Row.{Row, rowsOf, hopsOf}
 use Rattle.routes.specs.WellFormed.{halfRows}
@@ -91,15 +91,16 @@ pub record Turned (keys hops ends labels : List ℕ) (base limit at row depth at
   pub turned : at′ < limit → answer base (allRows keys hops) at′ ≡ answer base (allRows keys hops) at → ⊥
   pub stands : at′ < limit → Stack keys hops ends labels row depth at′ (at′ + 1)
 
--- the run table of f up to the limit was written from the front, and nothing else
-pub record RunsWritten (f : ℕ → ℕ) (limit : ℕ) (starts rhops : List ℕ) (n : ℕ) (starts′ rhops′ : List ℕ) : Type 0 where
-  pub count : n ≡ counted (turns f) 0 limit
-  pub starts-are : starts′ ≡ written (picked (turns f) 0 limit) starts
-  pub hops-are : rhops′ ≡ written (map f (picked (turns f) 0 limit)) rhops
+-- the runs of f from the start up to the limit were written from the front, and nothing else
+pub record RunsWritten (f : ℕ → ℕ) (start limit : ℕ) (starts rhops : List ℕ) (n : ℕ) (starts′ rhops′ : List ℕ) : Type 0 where
+  pub count : n ≡ counted (turnsFrom start f) start (limit - start)
+  pub starts-are : starts′ ≡ written (picked (turnsFrom start f) start (limit - start)) starts
+  pub hops-are : rhops′ ≡ written (map f (picked (turnsFrom start f) start (limit - start))) rhops
 
--- two slices are exactly the run table of f up to the limit
-unfoldable pub areRuns : (ℕ → ℕ) → ℕ → List ℕ → List ℕ → Bool
-areRuns f limit starts rhops = same starts (picked (turns f) 0 limit) && same rhops (map f (picked (turns f) 0 limit))
+-- two slices are exactly the runs of f from the start up to the limit
+unfoldable pub areRuns : (ℕ → ℕ) → ℕ → ℕ → List ℕ → List ℕ → Bool
+areRuns f start limit starts rhops =
+    same starts (picked (turnsFrom start f) start (limit - start)) && same rhops (map f (picked (turnsFrom start f) start (limit - start)))
 
 -- the run table of the rows was written from the front, or there was no room for it and nothing was written
 pub record RowsBuilt (rows : List Row) (starts rhops : List ℕ) (r : Built) (starts′ rhops′ : List ℕ) : Type 0 where

@@ -1,4 +1,4 @@
--- Where f turns, past 0, it differs from what it was one before; where it does not turn, and so from turn to turn, it is the same.
+-- Where f turns, past the first number, it differs from what it was one before; where it does not turn, and so from turn to turn, it is the same.
 -- Assumes nothing.
 use mathlib.Core.Path.{_≡_, refl, sym, ap, _∙_}
 use mathlib.Core.Bool.{Bool, true, false, not, _||_}
@@ -10,29 +10,29 @@ use native.Mathlib.Omega.{arith}
 use lib.ListN.{length, getD}
 use lib.Dec.{eqb}
 use borrow.Author.Tests.{eqb-true, eq-eqb, ne-eqb}
-use Rattle.ground.specs.Stretch.{turns}
+use Rattle.ground.specs.Stretch.{turnsFrom}
 use Rattle.ground.specs.Stretch.Picks.{Picks}
 
-module _ (f : ℕ → ℕ) where
-  pub turns-at-zero : turns f 0 ≡ true
-  unfolding turns
-  turns-at-zero = refl
+module _ (first : ℕ) (f : ℕ → ℕ) where
+  pub turns-at-first : turnsFrom first f first ≡ true
+  unfolding turnsFrom
+  turns-at-first = rw (eq-eqb first first refl)
 
-  pub turns-of-ne : (a : ℕ) → (f a ≡ f (a - 1) → ⊥) → turns f a ≡ true
-  unfolding turns
-  turns-of-ne a ne = rw (ne-eqb (f a) (f (a - 1)) ne) (go (eqb a 0))
+  pub turns-of-ne : (a : ℕ) → (f a ≡ f (a - 1) → ⊥) → turnsFrom first f a ≡ true
+  unfolding turnsFrom
+  turns-of-ne a ne = rw (ne-eqb (f a) (f (a - 1)) ne) (go (eqb a first))
     where
       go : (b : Bool) → (b || true) ≡ true
       go true = refl
       go false = refl
 
-  pub stays-of-same : (a : ℕ) → 0 < a → f a ≡ f (a - 1) → turns f a ≡ false
-  unfolding turns
-  stays-of-same a pos e = rw (eq-eqb (f a) (f (a - 1)) e, ne-eqb a 0 (λ z. omega arith))
+  pub stays-of-same : (a : ℕ) → first < a → f a ≡ f (a - 1) → turnsFrom first f a ≡ false
+  unfolding turnsFrom
+  stays-of-same a past e = rw (eq-eqb (f a) (f (a - 1)) e, ne-eqb a first (λ z. omega arith))
 
-  pub same-of-stays : (a : ℕ) → turns f a ≡ false → f a ≡ f (a - 1)
-  unfolding turns
-  same-of-stays a s = eqb-true (f a) (f (a - 1)) (go (eqb a 0) (eqb (f a) (f (a - 1))) s)
+  pub same-of-stays : (a : ℕ) → turnsFrom first f a ≡ false → f a ≡ f (a - 1)
+  unfolding turnsFrom
+  same-of-stays a s = eqb-true (f a) (f (a - 1)) (go (eqb a first) (eqb (f a) (f (a - 1))) s)
     where
       go : (x y : Bool) → (x || not y) ≡ false → y ≡ true
       go x true e = refl
@@ -40,8 +40,8 @@ module _ (f : ℕ → ℕ) where
       go false false e = sym e
 
   -- from one turn up to the next one f is the same
-  pub same-between-turns : (n : ℕ) (xs : List ℕ) → Picks (turns f) 0 n xs → (i a : ℕ) → i < length xs → getD xs i 0 ≤ a → a < n
-      → (i + 1 < length xs → a < getD xs (i + 1) 0) → f (getD xs i 0) ≡ f a
+  pub same-between-turns : (n : ℕ) (xs : List ℕ) → Picks (turnsFrom first f) first n xs → (i a : ℕ) → i < length xs
+      → getD xs i 0 ≤ a → a < first + n → (i + 1 < length xs → a < getD xs (i + 1) 0) → f (getD xs i 0) ≡ f a
   same-between-turns n xs k i zero l le lt next = ap f (omega arith)
   same-between-turns n xs k i (suc a) l le lt next =
       go (λ le. same-between-turns n xs k i a l le (omega arith) (λ more. omega (arith, next more))) (eq-or-lt-of-le le)

@@ -42,7 +42,7 @@ write-runs-requires : tie.Need-write-runs-requires
 write-runs-requires c κs =
     let pre = c .before .before .before .before .before .before .before .before .before .before .before .pre in
     let room = room-for-runs pre _ _ (enough (c .before .before)) in
-    (pre, omega arith, room .0, room .1)
+    (pre, (λ i l. omega arith), omega arith, omega arith, room .0, room .1)
 
 same-length-3 : tie.Need-same-length-3
 same-length-3 c = search needs

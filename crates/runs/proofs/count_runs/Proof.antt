@@ -4,7 +4,7 @@ use mathlib.Core.Path.{_≡_, refl}
 use Prim.Native.Nat.{_-_, _≤_}
 use native.Mathlib.Omega.{arith}
 use denote.Ref.{now}
-use Rattle.ground.specs.Stretch.{counted, turns}
+use Rattle.ground.specs.Stretch.{counted, turnsFrom}
 use Rattle.runs.specs.Sweep.{allRows, answer}
 use Rattle.runs.proofs.Turning.{counted-at-most, counted-nothing}
 use Rattle.runs.proofs.Turning.{Sweeping, sweeping-start, sweeping-asks, sweeping-on, sweeping-counted}
@@ -12,28 +12,29 @@ use Rattle.runs.proofs.count_runs.Statement.{statement}
 use Rattle.runs.proofs.count_runs.Tie as tie
 
 abbrev Inv-loop : tie.InvT-loop
-Inv-loop keys hops base limit ends₀ labels₀ s₀ n₀ ends labels s n =
-    Sweeping keys hops base limit ends labels (s .row) (s .depth) (s .at)
-    × (n ≡ counted (turns (answer base (allRows keys hops))) 0 (s .at))
+Inv-loop keys hops base start limit ends₀ labels₀ s₀ n₀ ends labels s n =
+    Sweeping keys hops base start limit ends labels (s .row) (s .depth) (s .at)
+    × (n ≡ counted (turnsFrom start (answer base (allRows keys hops))) start (s .at - start))
     × (limit ≤ 4294967296)
 
 abbrev μ-loop : tie.MeasureT-loop
-μ-loop keys hops base limit ends₀ labels₀ s₀ n₀ ends labels s n = limit - s .at
+μ-loop keys hops base start limit ends₀ labels₀ s₀ n₀ ends labels s n = limit - s .at
 
 begin-requires : tie.Need-begin-requires Inv-loop μ-loop
-begin-requires c κs = (c .before .before .before .before .pre .0, (λ i l. omega arith), refl, refl)
+begin-requires c κs = let pre = c .before .before .before .before .pre in (pre .0, pre .1, refl, refl)
 
 loop-holds : tie.Need-loop-holds Inv-loop μ-loop
 loop-holds c =
     let o = c .begin .ensures in
     let pre = c .before .before .before .before .before .pre in
-    (sweeping-start _ _ (pre .0) (o .1) (o .0), counted-nothing _ _ (o .0), pre .1)
+    (sweeping-start _ _ _ (pre .0) (pre .2) (o .1) (o .0), counted-nothing _ _ _ (o .0), pre .3)
 
 add-n : tie.Need-add-n Inv-loop μ-loop
 add-n c =
     let l = c .before .before .loop in
     let a = c .before .before .before .before .before .before .before .before .args in
-    let few = counted-at-most (turns (answer (a .base) (allRows (now (a .keys)) (now (a .hops))))) (l .s .at) in
+    let f = answer (a .base) (allRows (now (a .keys)) (now (a .hops))) in
+    let few = counted-at-most (turnsFrom (a .start) f) (a .start) (l .s .at - a .start) in
     omega (arith, l .inv .1, l .inv .2, c .if1 .taken)
 
 next-turn-requires : tie.Need-next-turn-requires Inv-loop μ-loop

@@ -53,7 +53,7 @@ slice-aggregate-same-runs-4 c = sym (length-take-le _ _ (in-rhops _ _ _ (room (c
 same-runs-requires : tie.Need-same-runs-requires
 same-runs-requires c κs =
     let within = c .before .before .before .before in
-    (slices-sorted _ _ _ (ok (within .before .before)), omega arith, runs-paired _ _ _ (room within))
+    (slices-sorted _ _ _ (ok (within .before .before)), (λ i l. omega arith), omega arith, omega arith, runs-paired _ _ _ (room within))
 
 returns-3 : tie.Need-returns-3
 returns-3 c =

@@ -12,27 +12,27 @@ use Rattle.runs.proofs.same_runs.Statement.{statement}
 use Rattle.runs.proofs.same_runs.Tie as tie
 
 abbrev Inv-loop : tie.InvT-loop
-Inv-loop keys hops base limit starts rhops ends₀ labels₀ s₀ n₀ ends labels s n =
-    Sweeping keys hops base limit ends labels (s .row) (s .depth) (s .at)
-    × Comparing (answer base (allRows keys hops)) (s .at) n starts rhops
+Inv-loop keys hops base start limit starts rhops ends₀ labels₀ s₀ n₀ ends labels s n =
+    Sweeping keys hops base start limit ends labels (s .row) (s .depth) (s .at)
+    × Comparing (answer base (allRows keys hops)) start (s .at) n starts rhops
 
 abbrev μ-loop : tie.MeasureT-loop
-μ-loop keys hops base limit starts rhops ends₀ labels₀ s₀ n₀ ends labels s n = limit - s .at
+μ-loop keys hops base start limit starts rhops ends₀ labels₀ s₀ n₀ ends labels s n = limit - s .at
 
 begin-requires : tie.Need-begin-requires Inv-loop μ-loop
-begin-requires c κs = (c .before .before .before .before .before .before .pre .0, (λ i l. omega arith), refl, refl)
+begin-requires c κs = let pre = c .before .before .before .before .before .before .pre in (pre .0, pre .1, refl, refl)
 
 loop-holds : tie.Need-loop-holds Inv-loop μ-loop
 loop-holds c =
     let o = c .begin .ensures in
     let pre = c .before .before .before .before .before .before .before .pre in
-    (sweeping-start _ _ (pre .0) (o .1) (o .0), comparing-start (o .0) (pre .2))
+    (sweeping-start _ _ _ (pre .0) (pre .2) (o .1) (o .0), comparing-start (o .0) (pre .4))
 
 returns : tie.Need-returns Inv-loop μ-loop
 returns c =
     let inv = c .before .before .before .loop .inv in
     let before = c .before .if1 .taken in
-    too-few (inv .1) before (inv .0 .turn before) (c .if2 .taken)
+    too-few (inv .1) (inv .0 .from) before (inv .0 .turn before) (c .if2 .taken)
 
 mul-if3 : tie.Need-mul-if3 Inv-loop μ-loop
 mul-if3 c = search needs
@@ -47,7 +47,7 @@ returns-2 : tie.Need-returns-2 Inv-loop μ-loop
 returns-2 c =
     let inv = c .before .before .before .before .before .before .loop .inv in
     let before = c .before .before .before .before .if1 .taken in
-    other-start (inv .1) before (inv .0 .turn before) (c .if3 .taken)
+    other-start (inv .1) (inv .0 .from) before (inv .0 .turn before) (c .if3 .taken)
 
 mul-if4 : tie.Need-mul-if4 Inv-loop μ-loop
 mul-if4 c = omega (arith, c .before .before .before .before .before .before .loop .inv .1 .paired)
@@ -64,7 +64,7 @@ returns-3 : tie.Need-returns-3 Inv-loop μ-loop
 returns-3 c =
     let inv = c .before .before .before .before .before .before .before .before .before .before .loop .inv in
     let before = c .before .before .before .before .before .before .before .before .if1 .taken in
-    other-hop (inv .1) before (inv .0 .turn before)
+    other-hop (inv .1) (inv .0 .from) before (inv .0 .turn before)
     (λ e. c .if4 .taken (e ∙ sym (sweeping-top (inv .0) before (c .before .top-hop .ensures))))
 
 add-n : tie.Need-add-n Inv-loop μ-loop
@@ -89,7 +89,7 @@ loop-again c =
     let more = start-test .before .before .before .if2 .left in
     let hop = hop-test .if4 .left ∙ sweeping-top (inv .0) before (hop-test .before .top-hop .ensures) in (
       sweeping-on (inv .0) before t,
-      comparing-on (inv .1) (t .past) (t .stays) (inv .0 .turn before) more (start-test .if3 .left)
+      comparing-on (inv .1) (inv .0 .from) (t .past) (t .stays) (inv .0 .turn before) more (start-test .if3 .left)
           hop,
     )
 

@@ -10,22 +10,22 @@ use Rattle.runs.proofs.write_runs.Statement.{statement}
 use Rattle.runs.proofs.write_runs.Tie as tie
 
 abbrev Inv-loop : tie.InvT-loop
-Inv-loop keys hops base limit starts₀ rhops₀ ends₀ labels₀ s₀ n₀ starts rhops ends labels s n =
-    Sweeping keys hops base limit ends labels (s .row) (s .depth) (s .at)
-    × Writing (answer base (allRows keys hops)) limit (s .at) n starts₀ rhops₀ starts rhops
+Inv-loop keys hops base start limit starts₀ rhops₀ ends₀ labels₀ s₀ n₀ starts rhops ends labels s n =
+    Sweeping keys hops base start limit ends labels (s .row) (s .depth) (s .at)
+    × Writing (answer base (allRows keys hops)) start limit (s .at) n starts₀ rhops₀ starts rhops
     × (limit ≤ 4294967296)
 
 abbrev μ-loop : tie.MeasureT-loop
-μ-loop keys hops base limit starts₀ rhops₀ ends₀ labels₀ s₀ n₀ starts rhops ends labels s n = limit - s .at
+μ-loop keys hops base start limit starts₀ rhops₀ ends₀ labels₀ s₀ n₀ starts rhops ends labels s n = limit - s .at
 
 begin-requires : tie.Need-begin-requires Inv-loop μ-loop
-begin-requires c κs = (c .before .before .before .before .before .before .pre .0, (λ i l. omega arith), refl, refl)
+begin-requires c κs = let pre = c .before .before .before .before .before .before .pre in (pre .0, pre .1, refl, refl)
 
 loop-holds : tie.Need-loop-holds Inv-loop μ-loop
 loop-holds c =
     let o = c .begin .ensures in
     let pre = c .before .before .before .before .before .before .before .pre in
-    (sweeping-start _ _ (pre .0) (o .1) (o .0), writing-start (o .0) (pre .2) (pre .3), pre .1)
+    (sweeping-start _ _ _ (pre .0) (pre .2) (o .1) (o .0), writing-start (o .0) (pre .4) (pre .5), pre .3)
 
 cast-starts : tie.Need-cast-starts Inv-loop μ-loop
 cast-starts c = omega (arith, c .before .before .before .loop .inv .2, c .before .if1 .taken)
@@ -40,7 +40,7 @@ slice-write-starts : tie.Need-slice-write-starts Inv-loop μ-loop
 slice-write-starts c =
     let inv = c .before .before .before .loop .inv in
     let before = c .before .if1 .taken in
-    start-fits (inv .1) before (inv .0 .turn before)
+    start-fits (inv .1) (inv .0 .from) before (inv .0 .turn before)
 
 top-hop-requires : tie.Need-top-hop-requires Inv-loop μ-loop
 top-hop-requires c κs = sweeping-top-asks (c .before .before .before .before .loop .inv .0) (c .before .before .if1 .taken)
@@ -55,7 +55,7 @@ slice-write-rhops : tie.Need-slice-write-rhops Inv-loop μ-loop
 slice-write-rhops c =
     let inv = c .before .before .before .before .before .loop .inv in
     let before = c .before .before .before .if1 .taken in
-    hop-fits (inv .1) before (inv .0 .turn before)
+    hop-fits (inv .1) (inv .0 .from) before (inv .0 .turn before)
 
 add-n : tie.Need-add-n Inv-loop μ-loop
 add-n c =
@@ -79,7 +79,7 @@ loop-again c =
     let before = turn .if1 .taken in
     let t = c .next-turn .ensures in
     let hop = sweeping-top (inv .0) before (top .top-hop .ensures) in
-    (sweeping-on (inv .0) before t, writing-on (inv .1) before (inv .0 .turn before) (t .past) (t .stays) hop, inv .2)
+    (sweeping-on (inv .0) before t, writing-on (inv .1) (inv .0 .from) before (inv .0 .turn before) (t .past) (t .stays) hop, inv .2)
 
 same-length : tie.Need-same-length Inv-loop μ-loop
 same-length c = c .before .before .loop .inv .1 .as-long
