@@ -11,11 +11,18 @@ static const char usage[] =
     "usage: whelk-import [--quiet] [FILE]\n"
     "Reads a route feed from FILE, or from standard input, a row a line: a.b.c.d/len hop\n"
     "Names every refused row as FILE:LINE: reason: the row, then prints the seven counts.\n"
+    "It reports and keeps nothing. The reason is the first that holds:\n"
+    "  shape     not of that form: also a CR at the end, a tab, a comment, an empty row\n"
+    "  range     an octet over 255, a length over 32, a hop of 0 or over 65535\n"
+    "  hostbits  a bit of the address beyond the length is 1\n"
+    "  repeat    an earlier row with the same prefix was taken\n"
+    "  noroom    1048576 rows are taken already\n"
+    "Options:\n"
     "  --quiet   the counts only\n"
     "  --help    this text\n"
     "Exit status: 0 nothing was refused, 1 something was, 2 the call failed.\n";
 
-static const char *const reasons[] = {"taken", "shape", "range", "host bits", "repeat", "no room"};
+static const char *const reasons[] = {"taken", "shape", "range", "hostbits", "repeat", "noroom"};
 
 static int fail(const char *what, const char *why)
 {

@@ -1,4 +1,4 @@
-/* A feed in, its counts, and the next hop of an address. */
+/* A feed in, its counts, and the next hop of the address 10.64.0.1. */
 #include <stdio.h>
 #include "whelkhollow.h"
 
@@ -10,9 +10,9 @@ int main(void)
     uint32_t starts[17];
     uint8_t report[8];
     struct whelk_counts c = whelk_import(feed, sizeof feed - 1, keys, 8, hops, 8, report, 8);
-    uint64_t runs = whelk_build(c.taken, keys, 8, hops, 8, starts, 17, run_hops, 17);
-    uint64_t found = whelk_run_lookup_slices(runs, starts, 17, run_hops, 17, 0x0a400001);
-    printf("taken %zu of %zu, %llu runs, 10.64.0.1 goes to hop %llu\n", c.taken, c.rows, (unsigned long long)runs,
-           (unsigned long long)(found & 65535));
+    uint64_t built = whelk_build(c.taken, keys, 8, hops, 8, starts, 17, run_hops, 17);
+    uint64_t found = whelk_run_lookup_slices(WHELK_RUNS(built), starts, 17, run_hops, 17, 0x0a400001);
+    if (c.number != WHELK_DONE || WHELK_BUILD_NUMBER(built) != WHELK_DONE || WHELK_NUMBER(found) != WHELK_DONE) return 1;
+    printf("taken %zu of %zu, %zu runs, 10.64.0.1 goes to hop %u\n", c.taken, c.rows, WHELK_RUNS(built), WHELK_HOP(found));
     return 0;
 }

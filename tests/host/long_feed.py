@@ -6,7 +6,7 @@ The rows are in key order and their prefixes nest. Every 701st is faulty: the fo
 import sys
 
 TOP_ROOM = 1048576
-REASONS = ("shape", "range", "host bits", "repeat", "no room")
+REASONS = ("shape", "range", "hostbits", "repeat", "noroom")
 
 
 def prefixes():
@@ -36,7 +36,7 @@ with open(sys.argv[2], "w", encoding="ascii") as feed:
             row, why = fault(line // 701, last)
         else:
             prefix = next(good)
-            row, why = f"{prefix} {1 + line % 65535}", "no room"
+            row, why = f"{prefix} {1 + line % 65535}", "noroom"
             if taken < TOP_ROOM:
                 last, taken, why = prefix, taken + 1, None
         feed.write(row + "\n")

@@ -1,5 +1,6 @@
 // The program: a text feed from standard input, at most 16,384 bytes, into a list of at most 1,024 rows. It writes the seven counts, a line
 // each, and the list's run table, a line a run; a longer feed gets the one line `feed too long`.
+ghost use Rattle.io.specs.Counts.{Counts as AtFront};
 use feed::Counts;
 use feed::Imported;
 use libc::STDIN_FILENO;
@@ -41,9 +42,49 @@ fn answer(feed: &[u8]) {
     table(count, &keys, &hops);
 }
 
+// How many bytes were read, and whether a read failed.
+struct Fed {
+    bytes: usize,
+    failed: bool,
+}
+
+// Reads standard input into the front of a buffer until that is full or the input ends. A read that fails is told apart from the end, so that no
+// part of a feed is taken for the whole.
+fn read_feed(input: &mut [u8]) -> Fed
+    ensures { λ r. ⌜ AtFront (r .bytes) (now (input .exit)) ⌝ }
+{
+    let mut bytes = 0;
+    while bytes < input.len() {
+        let got = libc::read(STDIN_FILENO, &mut input[bytes..]);
+        if got < 0 {
+            return Fed {
+                bytes,
+                failed: true,
+            };
+        }
+        let more = io::count(got, &input[bytes..]);
+        if more == 0 {
+            return Fed {
+                bytes,
+                failed: false,
+            };
+        }
+        bytes += more;
+    }
+    Fed {
+        bytes,
+        failed: false,
+    }
+}
+
 fn main() {
     let mut input = [0u8; 16385];
-    let n = io::read_full(STDIN_FILENO, &mut input);
+    let fed = read_feed(&mut input);
+    if fed.failed {
+        print::text(b"read failed\n");
+        return;
+    }
+    let n = fed.bytes;
     if 16384 < n {
         print::text(b"feed too long\n");
         return;
