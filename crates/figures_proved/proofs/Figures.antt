@@ -22,7 +22,7 @@ use Rattle.runs.specs.Build.{runRoom, buildChecks, buildNumber, buildStarts}
 use Rattle.runs.specs.Pair.{pairIll, pairChecks}
 use Rattle.edit.specs.Edit.{badPrefix, edited, announceChecks, announce, withdrawChecks, withdraw}
 use Rattle.runs.specs.Bytes.{runBytes, startAt, hopAt}
-use Rattle.runs.specs.Lookup.{inSlices, runChecks, runNumber, runHop, runProbes, inBytes, hostChecks, hostNumber, hostHop, hostAnswer}
+use Rattle.runs.specs.Lookup.{inSlices, runChecks, runNumber, runHop, runProbes, slicesAnswer, inBytes, hostChecks, hostNumber, hostHop, hostAnswer}
 use Rattle.segment.specs.Packed.{width, blockHop, bit, wordFrom, wordsOf, basesFrom, basesOf, packedHopsOf}
 use Rattle.segment.specs.Lookup.{blockOf, onesTo, pastPlace, packedChecks, packedNumber, packedHop}
 use Rattle.split.specs.Split.{covering, relabelled, firstHalf, secondHalf, splitChecks, splitNumber}
@@ -37,5 +37,5 @@ unfolding allHold same firstFault stretch among turnsFrom size hostBits holds co
 marked-hold = tt
 
 pub corners-hold : T (allHold corners)
-unfolding lower isKey rowLength runRoom buildChecks buildNumber buildStarts pairIll pairChecks badPrefix edited announceChecks announce withdrawChecks withdraw allHold same written rewritten insertedAt removedAt firstFault ifDone stretch among turnsFrom halves halving size hostBits isPrefix holds covers every those rowsOf listRoom prefixes hopsGiven ascends ascending halfRows goodRows wellFormed halfFormed matching longer longest plain listed announced withdrawn lookupChecks lookupNumber lookupHop halfChecks halfNumber halfLabel rowsIn digits afterDigits fieldsOf valueFrom inPlaces valuesOf outOfRange hasHostBits valueFault judgedValues judged readRow rowNumber listAfter rowNumbersFrom rowNumbers importedFrom imported howMany countsOf importChecks importNumber importCounts importReport importKeys importTally pullOf pull runBytes startAt hopAt inSlices runChecks runNumber runHop runProbes inBytes hostChecks hostNumber hostHop hostAnswer width blockHop bit wordFrom wordsOf basesFrom basesOf packedHopsOf blockOf onesTo pastPlace packedChecks packedNumber packedHop covering relabelled firstHalf secondHalf splitChecks splitNumber decimalBy decimal dottedText rowText textOf writeChecks writeNumber writeBuffer lineOf countLines runLines ones onesIn
+unfolding lower isKey rowLength runRoom buildChecks buildNumber buildStarts pairIll pairChecks badPrefix edited announceChecks announce withdrawChecks withdraw allHold same written rewritten insertedAt removedAt firstFault ifDone stretch among turnsFrom halves halving size hostBits isPrefix holds covers every those rowsOf listRoom prefixes hopsGiven ascends ascending halfRows goodRows wellFormed halfFormed matching longer longest plain listed announced withdrawn lookupChecks lookupNumber lookupHop halfChecks halfNumber halfLabel rowsIn digits afterDigits fieldsOf valueFrom inPlaces valuesOf outOfRange hasHostBits valueFault judgedValues judged readRow rowNumber listAfter rowNumbersFrom rowNumbers importedFrom imported howMany countsOf importChecks importNumber importCounts importReport importKeys importTally pullOf pull runBytes startAt hopAt inSlices runChecks runNumber runHop runProbes slicesAnswer inBytes hostChecks hostNumber hostHop hostAnswer width blockHop bit wordFrom wordsOf basesFrom basesOf packedHopsOf blockOf onesTo pastPlace packedChecks packedNumber packedHop covering relabelled firstHalf secondHalf splitChecks splitNumber decimalBy decimal dottedText rowText textOf writeChecks writeNumber writeBuffer lineOf countLines runLines ones onesIn
 corners-hold = tt

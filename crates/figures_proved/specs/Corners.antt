@@ -7,7 +7,8 @@ use lib.ListN.{length}
 use Rattle.ground.specs.Slots.{rewritten}
 use Rattle.ground.specs.Column.{insertedAt, removedAt}
 use Rattle.ground.specs.Halving.{halving}
-use Rattle.cidr.specs.Prefix.{dotted, size, network, isPrefix, holds, covers, keyOf}
+use Rattle.ground.specs.Stretch.{turnsFrom}
+use Rattle.cidr.specs.Prefix.{dotted, size, endOf, isPrefix, holds, covers, keyOf}
 use Rattle.routes.specs.Row.{Row, keysOf, hopsOf, listRoom}
 use Rattle.routes.specs.WellFormed.{wellFormed}
 use Rattle.routes.specs.Plain.{plain}
@@ -23,7 +24,7 @@ use Rattle.runs.specs.Build.{buildNumber, buildStarts}
 use Rattle.runs.specs.Pair.{Pair}
 use Rattle.runs.specs.Bytes.{runBytes}
 use Rattle.edit.specs.Edit.{announce, withdraw}
-use Rattle.runs.specs.Lookup.{runNumber, runHop, runProbes, hostAnswer}
+use Rattle.runs.specs.Lookup.{runNumber, runHop, runProbes, slicesAnswer, hostAnswer}
 use Rattle.segment.specs.Packed.{width, wordsOf, basesOf, packedHopsOf}
 use Rattle.segment.specs.Lookup.{packedNumber, packedHop}
 use Rattle.split.specs.Split.{secondHalf, splitNumber}
@@ -149,6 +150,9 @@ corners =
     ∷ figure (runNumber 0 [] [] ∷ runNumber 2 (0 ∷ 5 ∷ []) (1 ∷ []) ∷ []) (11 ∷ 11 ∷ [])
     ∷ figure (runHop 2 (0 ∷ 5 ∷ []) (1 ∷ 2 ∷ []) 4 ∷ runHop 2 (0 ∷ 5 ∷ []) (1 ∷ 2 ∷ []) 5 ∷ []) (1 ∷ 2 ∷ [])
     ∷ one (runProbes 2 (0 ∷ 5 ∷ []) (1 ∷ 2 ∷ []) 5) 1
+    ∷ figure (slicesAnswer 0 [] [] 0 ∷ slicesAnswer 2 (0 ∷ 5 ∷ []) (1 ∷ []) 5 ∷ slicesAnswer 1 (0 ∷ []) (7 ∷ []) 4294967295 ∷ [])
+    (720896 ∷ 720896 ∷ 7 ∷ [])
+    ∷ one (slicesAnswer 2 (0 ∷ 4294967295 ∷ []) (1 ∷ 65535 ∷ []) 4294967295) (4294967296 + 65535)
     ∷ figure (runBytes (0 ∷ dotted 1 2 3 4 ∷ []) (5 ∷ 1542 ∷ [])) (0 ∷ 0 ∷ 0 ∷ 0 ∷ 0 ∷ 5 ∷ 1 ∷ 2 ∷ 3 ∷ 4 ∷ 6 ∷ 6 ∷ [])
     ∷ figure (hostAnswer [] 0 ∷ hostAnswer (0 ∷ []) 0 ∷ []) (720896 ∷ 720896 ∷ [])
     ∷ one (hostAnswer (runBytes (0 ∷ dotted 1 2 3 4 ∷ []) (5 ∷ 1542 ∷ [])) (dotted 1 2 3 3)) 5
@@ -209,8 +213,14 @@ corners =
     -- the first row's length: nothing, an LF first, an LF later, none
     ∷ figure (rowLength [] ∷ rowLength (bytes "\nab") ∷ rowLength (bytes "ab\nc") ∷ rowLength (bytes "ab") ∷ []) (0 ∷ 0 ∷ 2 ∷ 2 ∷ [])
     -- one past a prefix that reaches the last address is 2^32, and a prefix of length 0 is all addresses
-    ∷ figure ((network (prefix 255 255 255 255 32) + size 32) ∷ (network (prefix 128 0 0 0 1) + size 1) ∷ size 0 ∷ [])
-    (4294967296 ∷ 4294967296 ∷ 4294967296 ∷ [])
+    ∷ figure (endOf (prefix 255 255 255 255 32) ∷ endOf (prefix 128 0 0 0 1) ∷ endOf (prefix 0 0 0 0 0) ∷ endOf (prefix 0 0 0 0 32) ∷ size 0 ∷ [])
+    (4294967296 ∷ 4294967296 ∷ 4294967296 ∷ 1 ∷ 4294967296 ∷ [])
+    -- a run begins at the first address of a part, whatever was before it, and past that only where the answer differs
+    ∷ passes (turnsFrom 0 (λ a. 0) 0)
+    ∷ passes (turnsFrom 10 (λ a. 0) 10)
+    ∷ fails (turnsFrom 10 (λ a. 0) 11)
+    ∷ passes (turnsFrom 10 (λ a. a) 11)
+    ∷ passes (turnsFrom 4294967295 (λ a. 0) 4294967295)
     -- a build of an ill-formed list is 11 with no room at all too, and its slices stay
     ∷ one (buildNumber 1 (2 ^ 38 ∷ []) (1 ∷ []) [] []) 11
     ∷ figure (buildStarts 1 (2 ^ 38 ∷ []) (1 ∷ []) (7 ∷ []) (8 ∷ [])) (7 ∷ [])
