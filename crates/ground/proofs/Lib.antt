@@ -1,3 +1,4 @@
 pub mod Truth
 pub mod Halving
 pub mod Column
+pub mod Numbers

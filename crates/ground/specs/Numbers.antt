@@ -63,6 +63,10 @@ abbrev pub checkOrder : List ℕ
 checkOrder =
     badEdit ∷ illFormed ∷ notItsRuns ∷ notListed ∷ badSize ∷ noDefault ∷ outsidePacked ∷ reportShort ∷ noRoom ∷ []
 
+-- What a call returns and leaves, as one: by its checks, the refusal with the first fault's number, or what an accepted call does.
+unfoldable pub outcome {ℓ} : {A : Type ℓ} → List Check → (ℕ → A) → A → A
+outcome checks refused accepted = cond (eqb (firstFault checks) done) accepted (refused (firstFault checks))
+
 -- the checks after those at the front that give this number
 unfoldable pub past : ℕ → List Check → List Check
 past n [] = []

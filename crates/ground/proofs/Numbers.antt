@@ -1,0 +1,30 @@
+-- Which number a call's checks give, check by check, and the outcome that goes with it.
+-- Assumes nothing.
+use mathlib.Core.Path.{_≡_}
+use mathlib.Core.Bool.{Bool, true, false}
+use mathlib.Core.List.{List, _∷_}
+use Prim.Native.Nat.{ℕ}
+use native.Mathlib.Omega.{arith}
+use lib.Dec.{eqb}
+use borrow.Author.Tests.{eq-eqb, ne-eqb}
+use Rattle.ground.specs.Numbers.{Check, check, firstFault, outcome, done}
+
+module _ {b : Bool} (n : ℕ) (cs : List Check) where
+  -- the first check's fault is there
+  pub fault-here : b ≡ true → firstFault (check b n ∷ cs) ≡ n
+  unfolding firstFault
+  fault-here e = rw e
+
+  -- it isn't, and the later checks decide
+  pub fault-later : b ≡ false → firstFault (check b n ∷ cs) ≡ firstFault cs
+  unfolding firstFault
+  fault-later e = rw e
+
+module _ {ℓ} {A : Type ℓ} (checks : List Check) (refused : ℕ → A) (accepted : A) where
+  pub outcome-done : firstFault checks ≡ done → outcome checks refused accepted ≡ accepted
+  unfolding outcome
+  outcome-done e = rw (eq-eqb (firstFault checks) done e)
+
+  pub outcome-refused : (n : ℕ) → firstFault checks ≡ n → (n ≡ done → ⊥) → outcome checks refused accepted ≡ refused n
+  unfolding outcome
+  outcome-refused n e fault = rw (ne-eqb (firstFault checks) done (λ z. fault (omega arith)), e)
