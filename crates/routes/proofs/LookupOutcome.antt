@@ -8,7 +8,7 @@ use native.Mathlib.Omega.{arith}
 use Rattle.ground.specs.Numbers.{check, firstFault, outcome, done, illFormed}
 use Rattle.routes.specs.declared.Looked.{Looked}
 use Rattle.routes.specs.declared.Looked.the-variants.{Hop, IllFormed}
-use Rattle.routes.specs.Row.{ListLent, rowsOf}
+use Rattle.routes.specs.Row.{ListLent, rowsLent}
 use Rattle.routes.specs.WellFormed.{wellFormed, halfFormed, formed}
 use Rattle.routes.specs.Plain.{plain}
 use Rattle.routes.specs.Lookup.{LookupOutcome, lookedUp, lookupGave, lookupChecks, plainLookup, halfChecks, halfLookup}
@@ -23,12 +23,12 @@ answered true hop = refl
 answered false hop = refl
 
 module _ (l : ListLent) (a : ℕ) (r : Looked) where
-  pub plain-answered : r ≡ answer (formed false (l .count) (l .keys) (l .hops)) (plain (rowsOf (l .count) (l .keys) (l .hops)) a)
+  pub plain-answered : r ≡ answer (formed false (l .count) (l .keys) (l .hops)) (plain (rowsLent l) a)
       → lookupGave r ≡ plainLookup l a
   unfolding formed plainLookup lookupChecks
   plain-answered e = ap lookupGave e ∙ answered (wellFormed (l .count) (l .keys) (l .hops)) _
 
-  pub half-answered : r ≡ answer (formed true (l .count) (l .keys) (l .hops)) (plain (rowsOf (l .count) (l .keys) (l .hops)) a)
+  pub half-answered : r ≡ answer (formed true (l .count) (l .keys) (l .hops)) (plain (rowsLent l) a)
       → lookupGave r ≡ halfLookup l a
   unfolding formed halfLookup halfChecks
   half-answered e = ap lookupGave e ∙ answered (halfFormed (l .count) (l .keys) (l .hops)) _

@@ -6,7 +6,7 @@ use Prim.Native.Nat.{ℕ}
 use Rattle.ground.specs.Numbers.{Check, check, outcome, done, illFormed}
 use Rattle.routes.specs.declared.Looked.{Looked}
 use Rattle.routes.specs.declared.Looked.the-variants.{Hop, IllFormed}
-use Rattle.routes.specs.Row.{ListLent, rowsOf}
+use Rattle.routes.specs.Row.{ListLent, rowsLent}
 use Rattle.routes.specs.WellFormed.{wellFormed, halfFormed}
 use Rattle.routes.specs.Plain.{plain}
 
@@ -28,11 +28,11 @@ unfoldable pub lookupChecks : ListLent → List Check
 lookupChecks l = check (not (wellFormed (l .count) (l .keys) (l .hops))) illFormed ∷ []
 
 unfoldable pub plainLookup : ListLent → ℕ → LookupOutcome
-plainLookup l a = outcome (lookupChecks l) (λ n. lookedUp n 0) (lookedUp done (plain (rowsOf (l .count) (l .keys) (l .hops)) a))
+plainLookup l a = outcome (lookupChecks l) (λ n. lookedUp n 0) (lookedUp done (plain (rowsLent l) a))
 
 -- lookup over a half
 unfoldable pub halfChecks : ListLent → List Check
 halfChecks l = check (not (halfFormed (l .count) (l .keys) (l .hops))) illFormed ∷ []
 
 unfoldable pub halfLookup : ListLent → ℕ → LookupOutcome
-halfLookup l a = outcome (halfChecks l) (λ n. lookedUp n 0) (lookedUp done (plain (rowsOf (l .count) (l .keys) (l .hops)) a))
+halfLookup l a = outcome (halfChecks l) (λ n. lookedUp n 0) (lookedUp done (plain (rowsLent l) a))

@@ -29,6 +29,10 @@ pub record ListLent : Type 0 where
 abbrev pub listLent : ℕ → List ℕ → List ℕ → ListLent
 listLent count keys hops = record { count = count; keys = keys; hops = hops }
 
+-- its rows
+abbrev pub rowsLent : ListLent → List Row
+rowsLent l = rowsOf (l .count) (l .keys) (l .hops)
+
 -- the two columns of a list of rows
 abbrev pub keysOf : List Row → List ℕ
 keysOf rows = map (λ r. r .key) rows
