@@ -1,5 +1,5 @@
 // What every other crate stands on and that knows nothing of routes: the numbers that a call returns, stretches of
-// numbers, halving, and what a lent slice holds after a call.
+// numbers, and what a lent slice holds after a call.
 
 // The numbers that a call returns; `specs/Numbers` has them as definitions.
 // 0: done.

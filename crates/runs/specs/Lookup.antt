@@ -7,7 +7,7 @@ use Prim.Native.Nat.{ℕ, _+_, _*_, _/_, _%_, min}
 use lib.ListN.{length, getD}
 use lib.Dec.{ltb, eqb}
 use Rattle.ground.specs.Numbers.{Check, check, firstFault, ifDone, illFormed}
-use Rattle.ground.specs.Halving.{Halved, halving}
+use Rattle.halving.specs.Halving.{Halved, halving}
 use Rattle.runs.specs.Bytes.{startAt, hopAt}
 
 -- halving over n runs of lent starts
