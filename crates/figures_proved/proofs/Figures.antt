@@ -6,7 +6,7 @@ use Rattle.ground.specs.Numbers.{firstFault, ifDone}
 use Rattle.ground.specs.Slots.{same, written, rewritten}
 use Rattle.ground.specs.Column.{ascends, insertedAt, removedAt}
 use Rattle.ground.specs.Stretch.{stretch, among, turnsFrom}
-use Rattle.ground.specs.Halving.{halves, halving}
+use Rattle.halving.specs.Halving.{halves, halving}
 use Rattle.cidr.specs.Prefix.{size, hostBits, isPrefix, holds, covers}
 use Rattle.routes.specs.Row.{every, those, rowsOf, listRoom}
 use Rattle.routes.specs.WellFormed.{prefixes, hopsGiven, ascending, halfRows, goodRows, wellFormed, halfFormed}

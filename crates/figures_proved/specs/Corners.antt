@@ -6,7 +6,7 @@ use Prim.Native.Nat.{ℕ, _+_, _^_}
 use lib.ListN.{length}
 use Rattle.ground.specs.Slots.{rewritten}
 use Rattle.ground.specs.Column.{isIn, insertedAt, removedAt}
-use Rattle.ground.specs.Halving.{halving}
+use Rattle.halving.specs.Halving.{halving}
 use Rattle.ground.specs.Stretch.{turnsFrom}
 use Rattle.cidr.specs.Prefix.{dotted, size, endOf, isPrefix, holds, covers, keyOf}
 use Rattle.routes.specs.Row.{Row, listLent, keysOf, hopsOf, listRoom}

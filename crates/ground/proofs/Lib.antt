@@ -1,4 +1,3 @@
 pub mod Truth
-pub mod Halving
 pub mod Column
 pub mod Numbers

@@ -11,10 +11,10 @@ use lib.ListN.{length, getD}
 use lib.Dec.{eqb, ltb}
 use borrow.Author.Tests.{eq-eqb, ne-eqb, lt-ltb, le-ltb}
 use Rattle.ground.specs.Numbers.{firstFault, ifDone}
-use Rattle.ground.specs.Halving.{halving}
-use Rattle.ground.specs.Narrowed.{Narrowed}
+use Rattle.halving.specs.Halving.{halving}
+use Rattle.halving.specs.Narrowed.{Narrowed}
 use Rattle.ground.proofs.Truth.{or-right}
-use Rattle.ground.proofs.Halving.{probes-at-most, Probing, probing-start, probing-narrowed, probing-end}
+use Rattle.halving.proofs.Halving.{probes-at-most, Probing, probing-start, probing-narrowed, probing-end}
 use Rattle.runs.specs.declared.Probed.the-variants.{Hop, IllFormed}
 use Rattle.runs.specs.Bytes.{startAt, hopAt}
 use Rattle.runs.specs.Lookup.{inSlices, runChecks, runNumber, runHop, runProbes, inBytes, hostChecks, hostNumber, hostHop, hostAnswer}

@@ -7,7 +7,7 @@ use native.Mathlib.Nat.{zero-add}
 use native.Mathlib.Omega.{arith}
 use lib.ListN.{length, getD}
 use Rattle.ground.specs.Numbers.{ifDone}
-use Rattle.ground.proofs.Halving.{low-below, low-at-most, next-above, halving-agrees}
+use Rattle.halving.proofs.Halving.{low-below, low-at-most, next-above, halving-agrees}
 use Rattle.cidr.specs.Prefix.{addresses}
 use Rattle.runs.specs.Table.{RunTable}
 use Rattle.runs.specs.Bytes.{runBytes, startAt, hopAt}

@@ -8,7 +8,7 @@ use native.Mathlib.Omega.{arith}
 use lib.ListN.{length, getD, take, length-take}
 use lib.Seq.{getD-take}
 use Rattle.ground.specs.Numbers.{ifDone}
-use Rattle.ground.proofs.Halving.{halving-agrees}
+use Rattle.halving.proofs.Halving.{halving-agrees}
 use Rattle.cidr.specs.Prefix.{addresses}
 use Rattle.routes.specs.Row.{Row}
 use Rattle.routes.specs.Plain.{plain}

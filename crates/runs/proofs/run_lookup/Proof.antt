@@ -3,7 +3,7 @@
 -- Assumes nothing.
 use native.Mathlib.Omega.{arith}
 use lib.ListN.{getD}
-use Rattle.ground.proofs.Halving.{narrowed-closer, Probing, probing-start, probing-narrowed, probing-bounds, probing-probes, probing-end}
+use Rattle.halving.proofs.Halving.{narrowed-closer, Probing, probing-start, probing-narrowed, probing-bounds, probing-probes, probing-end}
 use Rattle.runs.proofs.Answers.{no-runs, beyond-slices, runs-accepted, refused, found}
 use Rattle.runs.proofs.run_lookup.Statement.{statement}
 use Rattle.runs.proofs.run_lookup.Tie as tie

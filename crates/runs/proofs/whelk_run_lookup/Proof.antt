@@ -3,7 +3,7 @@
 -- Assumes nothing.
 use mathlib.Core.Path.{_∙_}
 use native.Mathlib.Omega.{arith}
-use Rattle.ground.proofs.Halving.{narrowed-closer, probing-bounds}
+use Rattle.halving.proofs.Halving.{narrowed-closer, probing-bounds}
 use Rattle.runs.proofs.Answers.{no-bytes, no-sixes, sixes-accepted, host-refused, RunsHalved, runs-start, runs-narrowed, runs-end}
 use Rattle.runs.proofs.whelk_run_lookup.Statement.{statement}
 use Rattle.runs.proofs.whelk_run_lookup.Tie as tie

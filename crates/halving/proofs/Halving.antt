@@ -10,8 +10,8 @@ use native.Mathlib.Numerals.{add-one}
 use native.Mathlib.Omega.{arith}
 use lib.Dec.{leb, ltb}
 use borrow.Author.Tests.{leb-true, leb-false, le-leb, lt-leb, ltb-true, ltb-false}
-use Rattle.ground.specs.Halving.{probed, halves, halving}
-use Rattle.ground.specs.Narrowed.{Narrowed}
+use Rattle.halving.specs.Halving.{probed, halves, halving}
+use Rattle.halving.specs.Narrowed.{Narrowed}
 
 -- how the loop goes from low and high on: it ends at the place `found` after `probes` more probes
 pub data Ends (at : ℕ → ℕ) (a : ℕ) : ℕ → ℕ → ℕ → ℕ → Type 0 where
@@ -105,11 +105,6 @@ module _ {at : ℕ → ℕ} {a : ℕ} where
   ends-agree other (up {low} {high} f l r) same = up f (rw (same ((low + high) / 2) (omega arith)) at l) (ends-agree other r same)
   ends-agree other (down {low} {high} f l r) same =
       down f (rw (same ((low + high) / 2) (omega arith)) at l) (ends-agree other r (λ i h. same i (omega arith)))
-
--- any two numbers of turns that are enough end alike
-pub halves-more : (at : ℕ → ℕ) (a turns more low high : ℕ) → high - low ≤ suc turns → high - low ≤ suc more
-    → halves more at a low high ≡ halves turns at a low high
-halves-more at a turns more low high e m = ends-halves (halves-ends at a turns low high e) more m
 
 module _ (at : ℕ → ℕ) (n a : ℕ) where
   pub probes-at-most : (p : ℕ) → n ≤ 2 ^ p → (halving at n a) .probes ≤ p
