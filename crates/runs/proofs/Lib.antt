@@ -1,10 +1,10 @@
 pub mod Table
 pub mod Found
-pub mod Answers
+pub mod LookupOutcomes
 pub mod Lookups
-pub mod SettledLookups
 pub mod Sweep
 pub mod Turning
 pub mod Whole
+pub mod TableOutcomes
 pub mod Settled
 pub mod BuildThenLookup

@@ -11,7 +11,7 @@ use lib.Seq.{length-take-le}
 use lib.Dec.{leb, ltb}
 use borrow.Author.Tests.{leb-true, leb-false, le-leb, lt-ltb, le-ltb}
 use Rattle.ground.proofs.Truth.{and-left, and-right}
-use Rattle.ground.specs.Numbers.{firstFault, ifDone, done, illFormed, notItsRuns}
+use Rattle.ground.specs.Numbers.{done, noRoom}
 use Rattle.ground.specs.Stretch.{picked, counted, turns}
 use Rattle.ground.specs.Stretch.Count.{counted-is}
 use Rattle.cidr.specs.Prefix.{holds}
@@ -20,14 +20,11 @@ use Rattle.routes.specs.WellFormed.{hopsGiven, goodRows, wellFormed, formed}
 use Rattle.routes.specs.Plain.{matching, plain}
 use Rattle.routes.proofs.Columns.{length-rows}
 use Rattle.routes.proofs.LastMatch.{lastHop, plain-last}
-use Rattle.runs.specs.declared.Built.{Built}
-use Rattle.runs.specs.declared.Built.the-variants as B
 use Rattle.runs.specs.Table.{runStarts, runHops, runHopsOf}
 use Rattle.runs.specs.Table.Laws.{starts-are}
-use Rattle.runs.specs.Build.{runRoom, buildChecks, buildNumber, buildCount, buildStarts, buildHops}
-use Rattle.runs.specs.Pair.{Pair, pairIll, itsRuns, pairChecks, pairNumber}
-use Rattle.runs.specs.Answers.{BuiltFrom}
-use Rattle.runs.specs.Sweep.{lastOr, allRows, answer, Sorted, RunsWritten, RowsBuilt, areRuns}
+use Rattle.runs.specs.Build.{slotsLent, built, runRoom}
+use Rattle.runs.specs.Inside.Rows.{buildRows}
+use Rattle.runs.specs.Sweep.{lastOr, allRows, answer, Sorted, RunsWritten}
 use Rattle.runs.proofs.Table.{runs-at-most}
 use Rattle.runs.proofs.Sweep.{in-order}
 
@@ -47,11 +44,11 @@ module _ {keys hops : List ℕ} (s : Sorted keys hops) where
   unfolding answer
   answer-plain = fun-ext (λ a. sym (plain-last a (allRows keys hops) (in-order s) ∙ last-is a 0 (allRows keys hops)))
 
-  whole-starts : picked (turns (answer 0 (allRows keys hops))) 0 4294967296 ≡ runStarts (allRows keys hops)
+  pub whole-starts : picked (turns (answer 0 (allRows keys hops))) 0 4294967296 ≡ runStarts (allRows keys hops)
   unfolding runStarts
   whole-starts = rw answer-plain (sym (starts-are (plain (allRows keys hops))))
 
-  whole-hops : map (answer 0 (allRows keys hops)) (picked (turns (answer 0 (allRows keys hops))) 0 4294967296)
+  pub whole-hops : map (answer 0 (allRows keys hops)) (picked (turns (answer 0 (allRows keys hops))) 0 4294967296)
       ≡ runHops (allRows keys hops)
   unfolding runHops runHopsOf
   whole-hops = rw answer-plain (rw (sym (starts-are (plain (allRows keys hops)))))
@@ -109,12 +106,14 @@ module _ {keys hops : List ℕ} (s : Sorted keys hops) (room : ℕ) where
       → leb n room ≡ leb (length (runStarts (allRows keys hops))) room
   room-counted e = ap (λ n. leb n room) (e ∙ whole-count s)
 
+same-built : {n n′ : ℕ} {s s′ h h′ : List ℕ} → n ≡ n′ → s ≡ s′ → h ≡ h′ → built done n s h ≡ built done n′ s′ h′
+same-built p q r = cc
+
 module _ {keys hops : List ℕ} (s : Sorted keys hops) (starts rhops : List ℕ) where
   pub rows-no-room : leb (length (runStarts (allRows keys hops))) (runRoom starts rhops) ≡ false
-      → RowsBuilt (allRows keys hops) starts rhops B.NoRoom starts rhops
-  rows-no-room e =
-      let full = lt-ltb (runRoom starts rhops) (length (runStarts (allRows keys hops))) (leb-false _ _ e) in
-      record { is = rw full; starts-left = rw full; hops-left = rw full }
+      → built noRoom 0 starts rhops ≡ buildRows (allRows keys hops) (slotsLent starts rhops)
+  unfolding buildRows
+  rows-no-room e = rw (lt-ltb (runRoom starts rhops) (length (runStarts (allRows keys hops))) (leb-false _ _ e))
 
   module _ (e : leb (length (runStarts (allRows keys hops))) (runRoom starts rhops) ≡ true) where
     pub room-for-runs : (counted (turns (answer 0 (allRows keys hops))) 0 4294967296 ≤ length starts)
@@ -125,40 +124,11 @@ module _ {keys hops : List ℕ} (s : Sorted keys hops) (starts rhops : List ℕ)
         (omega (arith, whole-count s), omega (arith, whole-count s))
 
     pub rows-runs : {n : ℕ} {starts′ rhops′ : List ℕ} → RunsWritten (answer 0 (allRows keys hops)) 0 4294967296 starts rhops n starts′ rhops′
-        → RowsBuilt (allRows keys hops) starts rhops (B.Runs n) starts′ rhops′
+        → built done n starts′ rhops′ ≡ buildRows (allRows keys hops) (slotsLent starts rhops)
+    unfolding buildRows
     rows-runs w =
-        let fits = le-ltb (runRoom starts rhops) (length (runStarts (allRows keys hops))) (leb-true _ _ e) in
-        record {
-          is = rw fits (ap B.Runs (w .count ∙ whole-count s));
-          starts-left = rw fits (w .starts-are ∙ rw (whole-starts s));
-          hops-left = rw fits (w .hops-are ∙ rw (whole-hops s));
-        }
-
--- What a build of a list says.
-module _ {count : ℕ} {keys hops starts rhops : List ℕ} where
-  pub built-ill : wellFormed count keys hops ≡ false → BuiltFrom count keys hops starts rhops B.IllFormed starts rhops
-  unfolding buildNumber buildChecks buildCount buildStarts buildHops firstFault ifDone
-  built-ill e = record { number = rw e; runs = rw e; starts-left = rw e; hops-left = rw e }
-
-  pub built-rows : wellFormed count keys hops ≡ true → {r : Built} {starts′ rhops′ : List ℕ}
-      → RowsBuilt (rowsOf count keys hops) starts rhops r starts′ rhops′ → BuiltFrom count keys hops starts rhops r starts′ rhops′
-  unfolding buildNumber buildChecks buildCount buildStarts buildHops firstFault ifDone
-  built-rows e {r} {starts′} {rhops′} w = go (ltb (runRoom starts rhops) (length (runStarts (rowsOf count keys hops)))) refl
-    where
-      go : (b : Bool) → ltb (runRoom starts rhops) (length (runStarts (rowsOf count keys hops))) ≡ b
-          → BuiltFrom count keys hops starts rhops r starts′ rhops′
-      go true full = record {
-        number = rw (w .is, e, full);
-        runs = rw (w .is, e, full);
-        starts-left = rw (w .starts-left, e, full);
-        hops-left = rw (w .hops-left, e, full);
-      }
-      go false fits = record {
-        number = rw (w .is, e, fits);
-        runs = rw (w .is, e, fits);
-        starts-left = rw (w .starts-left, e, fits);
-        hops-left = rw (w .hops-left, e, fits);
-      }
+        rw (le-ltb (runRoom starts rhops) (length (runStarts (allRows keys hops))) (leb-true _ _ e))
+        (same-built (w .count ∙ whole-count s) (w .starts-are ∙ rw (whole-starts s)) (w .hops-are ∙ rw (whole-hops s)))
 
 -- A count of runs within the room is within both slices.
 module _ (runs : ℕ) (starts rhops : List ℕ) (l : runs ≤ runRoom starts rhops) where
@@ -172,32 +142,3 @@ module _ (runs : ℕ) (starts rhops : List ℕ) (l : runs ≤ runRoom starts rho
 
   pub runs-paired : length (take runs rhops) ≡ length (take runs starts)
   runs-paired = rw (length-take-le runs rhops in-rhops) (sym (length-take-le runs starts in-starts))
-
--- What the pair check says.
-module _ (p : Pair) where
-  pub pair-ill-list : wellFormed (p .count) (p .keys) (p .hops) ≡ false → illFormed ≡ pairNumber p
-  unfolding pairNumber pairChecks pairIll firstFault
-  pair-ill-list e = rw e
-
-  module _ (e : wellFormed (p .count) (p .keys) (p .hops) ≡ true) where
-    pub pair-ill-runs : runRoom (p .starts) (p .rhops) < p .runs → illFormed ≡ pairNumber p
-    unfolding pairNumber pairChecks pairIll firstFault
-    pair-ill-runs l = rw (e, lt-ltb (runRoom (p .starts) (p .rhops)) (p .runs) l)
-
-    module _ (l : p .runs ≤ runRoom (p .starts) (p .rhops)) where
-      pub its : {b : Bool}
-          → b ≡ areRuns (answer 0 (allRows (take (p .count) (p .keys)) (take (p .count) (p .hops)))) 0 4294967296 (take (p .runs) (p .starts))
-          (take (p .runs) (p .rhops))
-          → itsRuns p ≡ b
-      unfolding itsRuns areRuns
-      its q =
-          let s = slices-sorted (p .count) (p .keys) (p .hops) e in
-          sym (q ∙ rw (whole-hops s, whole-starts s, slices-rows (p .count) (p .keys) (p .hops) e))
-
-      pub pair-agreed : itsRuns p ≡ true → done ≡ pairNumber p
-      unfolding pairNumber pairChecks pairIll firstFault
-      pair-agreed q = rw (e, le-ltb (runRoom (p .starts) (p .rhops)) (p .runs) l, q)
-
-      pub pair-differs : itsRuns p ≡ false → notItsRuns ≡ pairNumber p
-      unfolding pairNumber pairChecks pairIll firstFault
-      pair-differs q = rw (e, le-ltb (runRoom (p .starts) (p .rhops)) (p .runs) l, q)

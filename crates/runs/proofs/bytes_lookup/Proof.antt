@@ -1,12 +1,11 @@
--- `runs::whelk_run_lookup` meets its contract. The loop keeps `RunsHalved` true: halving as in `run_lookup`, over the starts that the bytes
+-- `runs::bytes_lookup` meets its contract. The loop keeps `RunsHalved` true: halving as in `run_lookup`, over the starts that the bytes
 -- hold. The measure is how far high is from low.
 -- Assumes nothing.
-use mathlib.Core.Path.{_∙_}
 use native.Mathlib.Omega.{arith}
 use Rattle.halving.proofs.Halving.{narrowed-closer, probing-bounds}
-use Rattle.runs.proofs.Answers.{no-bytes, no-sixes, sixes-accepted, host-refused, RunsHalved, runs-start, runs-narrowed, runs-end}
-use Rattle.runs.proofs.whelk_run_lookup.Statement.{statement}
-use Rattle.runs.proofs.whelk_run_lookup.Tie as tie
+use Rattle.runs.proofs.LookupOutcomes.{no-bytes, no-sixes, sixes-accepted, bytes-refused, RunsHalved, runs-start, runs-narrowed, runs-end}
+use Rattle.runs.proofs.bytes_lookup.Statement.{statement}
+use Rattle.runs.proofs.bytes_lookup.Tie as tie
 
 abbrev Inv-loop : tie.InvT-loop
 Inv-loop bytes a n s₀ s = RunsHalved bytes a (s .place) (s .apart)
@@ -15,10 +14,10 @@ abbrev μ-loop : tie.MeasureT-loop
 μ-loop bytes a n s₀ s = s .apart
 
 returns : tie.Need-returns Inv-loop μ-loop
-returns c = host-refused _ _ (no-bytes _ (omega arith))
+returns c = bytes-refused _ _ (no-bytes _ (omega arith))
 
 returns-2 : tie.Need-returns-2 Inv-loop μ-loop
-returns-2 c = host-refused _ _ (no-sixes _ (λ e. c .if2 .taken (omega arith)))
+returns-2 c = bytes-refused _ _ (no-sixes _ (λ e. c .if2 .taken (omega arith)))
 
 loop-holds : tie.Need-loop-holds Inv-loop μ-loop
 loop-holds c = runs-start _ _ (omega arith)
@@ -45,10 +44,10 @@ hop-from-requires : tie.Need-hop-from-requires Inv-loop μ-loop
 hop-from-requires c κs = omega (arith, probing-bounds (c .before .before .before .loop .inv .probing))
 
 returns-3 : tie.Need-returns-3 Inv-loop μ-loop
-returns-3 c = c .hop-from .ensures ∙ runs-end (c .before .before .before .before .loop .inv) (omega arith) (sixes-accepted _ (omega arith) (omega arith))
+returns-3 c = runs-end (c .before .before .before .before .loop .inv) (omega arith) (sixes-accepted _ (omega arith) (omega arith)) (c .hop-from .ensures)
 
-pub whelk-run-lookup-spec : {M : Type 1} → statement M
-whelk-run-lookup-spec =
+pub bytes-lookup-spec : {M : Type 1} → statement M
+bytes-lookup-spec =
     tie.close
     (tie.spec
     Inv-loop
