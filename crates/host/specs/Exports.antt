@@ -3,10 +3,11 @@
 use mathlib.Core.Path.{_≡_}
 use mathlib.Core.List.{List}
 use Prim.Native.Nat.{ℕ, _+_, _*_}
-use Rattle.routes.specs.Lookup.{lookupNumber, lookupHop}
+use Rattle.routes.specs.Lookup.{LookupOutcome}
 use Rattle.feed.specs.declared.Counts.{Counts}
 use Rattle.feed.specs.Import.{importNumber, importCounts, importKeys, importHops, importReport}
-use Rattle.runs.specs.Build.{buildNumber, buildCount, buildStarts, buildHops}
+use Rattle.runs.specs.Build.{BuildOutcome}
+use Rattle.runs.specs.Lookup.{RunLookupOutcome}
 use Rattle.host.specs.declared.WhelkCounts.{WhelkCounts}
 
 -- the seven counts of what an import returns
@@ -29,12 +30,26 @@ pub record HostImported (feed keys hops report : List ℕ) (r : WhelkCounts) (ke
   pub hops-left : hops′ ≡ importHops feed keys hops report
   pub report-left : report′ ≡ importReport feed keys hops report
 
--- 65,536 × number + hop, as document 01 has it for run bytes
-unfoldable pub packedLookup : ℕ → List ℕ → List ℕ → ℕ → ℕ
-packedLookup count keys hops a = 65536 * lookupNumber count keys hops + lookupHop count keys hops a
+-- the one number that C gets from a lookup: 65,536 × number + hop
+unfoldable pub lookupForC : LookupOutcome → ℕ
+lookupForC o = 65536 * o .number + o .hop
 
--- a build's number and count in one, and the two lent slices at exit, are what the definitions say of what was lent
-pub record HostBuilt (count : ℕ) (keys hops starts rhops : List ℕ) (r : ℕ) (starts′ rhops′ : List ℕ) : Type 0 where
-  pub answer : r ≡ 4294967296 * buildNumber count keys hops starts rhops + buildCount count keys hops starts rhops
-  pub starts-left : starts′ ≡ buildStarts count keys hops starts rhops
-  pub hops-left : rhops′ ≡ buildHops count keys hops starts rhops
+-- from a run lookup over slices, with the probes above these
+unfoldable pub runLookupForC : RunLookupOutcome → ℕ
+runLookupForC o = 4294967296 * o .probes + (65536 * o .number + o .hop)
+
+-- from a build: 4,294,967,296 × number + count of runs
+unfoldable pub builtForC : BuildOutcome → ℕ
+builtForC o = 4294967296 * o .number + o .runs
+
+-- what a build returns to C and leaves: the one number, and the two slices
+pub record BuildForC : Type 0 where
+  pub answer : ℕ
+  pub starts : List ℕ
+  pub hops : List ℕ
+
+abbrev pub buildGaveC : ℕ → List ℕ → List ℕ → BuildForC
+buildGaveC answer starts hops = record { answer = answer; starts = starts; hops = hops }
+
+unfoldable pub buildForC : BuildOutcome → BuildForC
+buildForC o = buildGaveC (builtForC o) (o .starts) (o .hops)
