@@ -1,3 +1,4 @@
 pub mod Truth
 pub mod Column
+pub mod Map
 pub mod Numbers

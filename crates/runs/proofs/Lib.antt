@@ -3,8 +3,6 @@ pub mod Found
 pub mod Answers
 pub mod Lookups
 pub mod SettledLookups
-pub mod Sweep
-pub mod Turning
-pub mod Whole
+pub mod WholeList
 pub mod Settled
 pub mod BuildThenLookup

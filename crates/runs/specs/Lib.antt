@@ -5,4 +5,4 @@ pub mod Bytes
 pub mod Lookup
 pub mod Probed
 pub mod Answers
-pub mod Sweep
+pub mod Inside

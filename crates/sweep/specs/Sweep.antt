@@ -2,21 +2,16 @@
 -- stack of the open prefixes, those that hold the present address: `ends` has one past each one's last address, `labels` its hop.
 -- Assumes nothing.
 use mathlib.Core.Path.{_≡_}
-use mathlib.Core.Bool.{Bool, true, cond, _&&_}
+use mathlib.Core.Bool.{Bool, true, _&&_}
 use mathlib.Core.List.{List, [], _∷_, map}
 use Prim.Native.Nat.{ℕ, _+_, _-_, _≤_, _<_}
 use lib.ListN.{length, getD, take}
-use lib.Dec.{ltb}
 use Rattle.ground.specs.Slots.{written, same}
 use Rattle.ground.specs.Stretch.{picked, counted, turnsFrom}
 use Rattle.cidr.specs.Prefix.{network, endOf}
 use Rattle.routes.specs.Row.{Row, rowsOf, hopsOf}
 use Rattle.routes.specs.WellFormed.{halfRows}
 use Rattle.routes.specs.Plain.{matching}
-use Rattle.runs.specs.declared.Built.{Built}
-use Rattle.runs.specs.declared.Built.the-variants as B
-use Rattle.runs.specs.Table.{runStarts, runHops}
-use Rattle.runs.specs.Build.{runRoom}
 
 -- the last number of a list, or another one where the list has none
 unfoldable pub lastOr : ℕ → List ℕ → ℕ
@@ -101,9 +96,3 @@ pub record RunsWritten (f : ℕ → ℕ) (start limit : ℕ) (starts rhops : Lis
 unfoldable pub areRuns : (ℕ → ℕ) → ℕ → ℕ → List ℕ → List ℕ → Bool
 areRuns f start limit starts rhops =
     same starts (picked (turnsFrom start f) start (limit - start)) && same rhops (map f (picked (turnsFrom start f) start (limit - start)))
-
--- the run table of the rows was written from the front, or there was no room for it and nothing was written
-pub record RowsBuilt (rows : List Row) (starts rhops : List ℕ) (r : Built) (starts′ rhops′ : List ℕ) : Type 0 where
-  pub is : r ≡ cond (ltb (runRoom starts rhops) (length (runStarts rows))) B.NoRoom (B.Runs (length (runStarts rows)))
-  pub starts-left : starts′ ≡ cond (ltb (runRoom starts rhops) (length (runStarts rows))) starts (written (runStarts rows) starts)
-  pub hops-left : rhops′ ≡ cond (ltb (runRoom starts rhops) (length (runStarts rows))) rhops (written (runHops rows) rhops)

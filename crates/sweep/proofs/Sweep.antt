@@ -24,7 +24,7 @@ use Rattle.routes.specs.Row.{Row, row, rowsOf, keysOf, every, keepRow, those}
 use Rattle.routes.specs.WellFormed.{prefixes, ascending, halfRows}
 use Rattle.routes.specs.Plain.{matching}
 use Rattle.routes.proofs.Columns.{keys-of-rows}
-use Rattle.runs.specs.Sweep.{From, lastOr, endsOf, allRows, answer, Sorted, Stack, Falling, Closed, Poised, Event, Turned}
+use Rattle.sweep.specs.Sweep.{From, lastOr, endsOf, allRows, answer, Sorted, Stack, Falling, Closed, Poised, Event, Turned}
 
 -- the row at a place
 abbrev rowAt : List ℕ → List ℕ → ℕ → Row

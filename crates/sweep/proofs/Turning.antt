@@ -14,14 +14,14 @@ use lib.Seq.{take-suc, take-all, length-take-le, drop-cons, set-at}
 use lib.Dec.{eqb}
 use borrow.Author.Tests.{eqb-true, eqb-false, eq-eqb}
 use Rattle.ground.proofs.Truth.{decided, and-left, and-right, and-both, never-both}
+use Rattle.ground.proofs.Map.{getD-map}
 use Rattle.ground.specs.Slots.{written, same}
 use Rattle.ground.specs.Stretch.{picked, counted, turnsFrom}
 use Rattle.ground.specs.Stretch.Laws.{picked-none, picked-suc, picked-cut}
 use Rattle.ground.specs.Stretch.Count.{counted-is, counted-le, counted-all, picked-at}
 use Rattle.ground.specs.Stretch.Turns.{turns-at-first, turns-of-ne, stays-of-same}
-use Rattle.runs.specs.Sweep.{lastOr, allRows, answer, Sorted, Stack, Turned, RunsWritten, areRuns}
-use Rattle.runs.proofs.Table.{getD-map}
-use Rattle.runs.proofs.Sweep.{few-open, standing-answer}
+use Rattle.sweep.specs.Sweep.{lastOr, allRows, answer, Sorted, Stack, Turned, RunsWritten, areRuns}
+use Rattle.sweep.proofs.Sweep.{few-open, standing-answer}
 
 picked-empty : (p : ℕ → Bool) (lo n : ℕ) → ((a : ℕ) → lo ≤ a → a < lo + n → p a ≡ false) → picked p lo n ≡ []
 picked-empty p lo zero h = picked-none p lo

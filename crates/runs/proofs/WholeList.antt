@@ -27,9 +27,10 @@ use Rattle.runs.specs.Table.Laws.{starts-are}
 use Rattle.runs.specs.Build.{runRoom, buildChecks, buildNumber, buildCount, buildStarts, buildHops}
 use Rattle.runs.specs.Pair.{Pair, pairIll, itsRuns, pairChecks, pairNumber}
 use Rattle.runs.specs.Answers.{BuiltFrom}
-use Rattle.runs.specs.Sweep.{lastOr, allRows, answer, Sorted, RunsWritten, RowsBuilt, areRuns}
+use Rattle.sweep.specs.Sweep.{lastOr, allRows, answer, Sorted, RunsWritten, areRuns}
+use Rattle.sweep.proofs.Sweep.{in-order}
+use Rattle.runs.specs.Inside.RowsBuilt.{RowsBuilt}
 use Rattle.runs.proofs.Table.{runs-at-most}
-use Rattle.runs.proofs.Sweep.{in-order}
 
 -- the hop that a walk over the rows keeps is that of the last row that holds the address
 last-is : (a h : ℕ) (rows : List Row) → lastHop h a rows ≡ lastOr h (hopsOf (matching a rows))
