@@ -8,10 +8,9 @@ use Prim.Native.Nat.{ℕ, _<_}
 use native.Mathlib.Omega.{arith}
 use lib.Dec.{eqb}
 use lib.ListN.{length, take, length-map}
-use lib.Seq.{take-at}
 use Rattle.ground.specs.Numbers.{firstFault, ifDone}
-use Rattle.ground.specs.Slots.{written}
 use Rattle.ground.proofs.Truth.{decided, cond-true}
+use Rattle.ground.proofs.Slots.{take-written}
 use Rattle.cidr.specs.Prefix.{addresses}
 use Rattle.routes.specs.Row.{rowsOf}
 use Rattle.routes.specs.WellFormed.{wellFormed}
@@ -27,11 +26,6 @@ use Rattle.runs.specs.Answers.{BuiltFrom}
 use Rattle.runs.specs.Probed.{probedNumber, probedHop, RunLookedUp}
 use Rattle.runs.proofs.Lookups.{looked-up-plain}
 
--- what was written stands at the front
-front : (new old : List ℕ) (n : ℕ) → n ≡ length new → take n (written new old) ≡ new
-unfolding written
-front new old n e = take-at new _ n (sym e)
-
 same-count : (count : ℕ) (keys hops : List ℕ) → length (runHops (rowsOf count keys hops)) ≡ length (runStarts (rowsOf count keys hops))
 unfolding runHops runHopsOf runStarts
 same-count count keys hops = length-map (startsOf (plain (rowsOf count keys hops))) (plain (rowsOf count keys hops))
@@ -46,11 +40,11 @@ module _ {count n : ℕ} {keys hops starts rhops starts′ rhops′ : List ℕ} 
 
   starts-are : take n starts′ ≡ runStarts (rowsOf count keys hops)
   unfolding buildStarts
-  starts-are = ap (take n) (b .starts-left ∙ cond-true _ _ accepted) ∙ front _ starts n count-is
+  starts-are = ap (take n) (b .starts-left ∙ cond-true _ _ accepted) ∙ take-written _ starts n count-is
 
   hops-are : take n rhops′ ≡ runHops (rowsOf count keys hops)
   unfolding buildHops
-  hops-are = ap (take n) (b .hops-left ∙ cond-true _ _ accepted) ∙ front _ rhops n (count-is ∙ sym (same-count count keys hops))
+  hops-are = ap (take n) (b .hops-left ∙ cond-true _ _ accepted) ∙ take-written _ rhops n (count-is ∙ sym (same-count count keys hops))
 
   -- an accepted build's list is well-formed, so plain lookup answers
   ill-number : wellFormed count keys hops ≡ false → buildNumber count keys hops starts rhops ≡ 11

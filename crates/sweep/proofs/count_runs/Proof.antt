@@ -5,8 +5,9 @@ use Prim.Native.Nat.{_-_, _≤_}
 use native.Mathlib.Omega.{arith}
 use denote.Ref.{now}
 use Rattle.ground.specs.Stretch.{counted, turnsFrom}
+use Rattle.ground.specs.Stretch.Count.{counted-at-most}
+use Rattle.ground.specs.Stretch.Turns.{counted-to-first}
 use Rattle.sweep.specs.Sweep.{allRows, answer}
-use Rattle.sweep.proofs.Turning.{counted-at-most, counted-nothing}
 use Rattle.sweep.proofs.Turning.{Sweeping, sweeping-start, sweeping-asks, sweeping-on, sweeping-counted}
 use Rattle.sweep.proofs.count_runs.Statement.{statement}
 use Rattle.sweep.proofs.count_runs.Tie as tie
@@ -27,7 +28,7 @@ loop-holds : tie.Need-loop-holds Inv-loop μ-loop
 loop-holds c =
     let o = c .begin .ensures in
     let pre = c .before .before .before .before .before .pre in
-    (sweeping-start _ _ _ (pre .0) (pre .2) (o .1) (o .0), counted-nothing _ _ _ (o .0), pre .3)
+    (sweeping-start _ _ _ (pre .0) (pre .2) (o .1) (o .0), counted-to-first _ _ _ (o .0), pre .3)
 
 add-n : tie.Need-add-n Inv-loop μ-loop
 add-n c =
