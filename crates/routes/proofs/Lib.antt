@@ -1,4 +1,5 @@
 pub mod Row
+pub mod RowsOf
 pub mod WellFormed
 pub mod Plain
 pub mod Change

@@ -13,7 +13,8 @@ use Rattle.ground.specs.Column.{below, ascends}
 use Rattle.cidr.specs.Prefix.{isPrefix}
 use Rattle.routes.specs.Row.{Row, rowsOf, keysOf, every, listRoom}
 use Rattle.routes.specs.WellFormed.{prefixes, hopsGiven, ascending, halfRows, goodRows, wellFormed, halfFormed, formed}
-use Rattle.routes.proofs.Rest.{rowAt, rest, rest-start, rest-end, rest-next}
+use Rattle.routes.proofs.RowsOf.{rowAt}
+use Rattle.routes.proofs.Rest.{rest, rest-start, rest-end, rest-next}
 
 -- what 11 asks of the rows, and of one row by itself, by the flag: whether label 0 is an ordinary hop
 pub rowsPass : Bool → List Row → Bool

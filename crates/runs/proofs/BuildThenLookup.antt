@@ -7,10 +7,10 @@ use mathlib.Core.List.{List}
 use Prim.Native.Nat.{ℕ, _<_}
 use native.Mathlib.Omega.{arith}
 use lib.ListN.{length, take, length-map}
-use lib.Seq.{take-at}
 use Rattle.ground.specs.Numbers.{firstFault, outcome, done}
 use Rattle.ground.specs.Slots.{written}
 use Rattle.ground.proofs.Truth.{decided}
+use Rattle.ground.proofs.Slots.{take-written}
 use Rattle.cidr.specs.Prefix.{addresses}
 use Rattle.routes.specs.Row.{Row, ListLent, rowsLent}
 use Rattle.routes.specs.WellFormed.{wellFormed}
@@ -25,11 +25,6 @@ use Rattle.runs.specs.Lookup.{RunLookupOutcome, runLookupGave, runLookup
 use Rattle.runs.specs.Inside.Rows.{buildRows}
 use Rattle.runs.proofs.Lookups.{run-lookup-plain}
 use Rattle.runs.proofs.TableOutcomes.{build-ill, build-well, rows-done}
-
--- what was written stands at the front
-front : (new old : List ℕ) (n : ℕ) → n ≡ length new → take n (written new old) ≡ new
-unfolding written
-front new old n e = take-at new _ n (sym e)
 
 same-count : (rows : List Row) → length (runHops rows) ≡ length (runStarts rows)
 unfolding runHops runHopsOf runStarts
@@ -47,10 +42,10 @@ module _ (l : ListLent) (t : SlotsLent) {n : ℕ} {starts hops : List ℕ} (b : 
   count-is = ap (λ (o : BuildOutcome). o .runs) left
 
   starts-are : take n starts ≡ runStarts (rowsLent l)
-  starts-are = ap (take n) (ap (λ (o : BuildOutcome). o .starts) left) ∙ front _ (t .starts) n count-is
+  starts-are = ap (take n) (ap (λ (o : BuildOutcome). o .starts) left) ∙ take-written _ (t .starts) n count-is
 
   hops-are : take n hops ≡ runHops (rowsLent l)
-  hops-are = ap (take n) (ap (λ (o : BuildOutcome). o .hops) left) ∙ front _ (t .hops) n (count-is ∙ sym (same-count (rowsLent l)))
+  hops-are = ap (take n) (ap (λ (o : BuildOutcome). o .hops) left) ∙ take-written _ (t .hops) n (count-is ∙ sym (same-count (rowsLent l)))
 
   plain-answers : (a : ℕ) → plainLookup l a .hop ≡ plain (rowsLent l) a
   unfolding plainLookup lookupChecks firstFault outcome

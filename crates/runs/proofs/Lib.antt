@@ -2,9 +2,7 @@ pub mod Table
 pub mod Found
 pub mod LookupOutcomes
 pub mod Lookups
-pub mod Sweep
-pub mod Turning
-pub mod Whole
+pub mod WholeList
 pub mod TableOutcomes
 pub mod Settled
 pub mod BuildThenLookup

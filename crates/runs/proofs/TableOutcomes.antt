@@ -21,8 +21,8 @@ use Rattle.runs.specs.Table.{runStarts, runHops}
 use Rattle.runs.specs.Build.{SlotsLent, BuildOutcome, built, buildGave, buildChecks, build, runRoom}
 use Rattle.runs.specs.Pair.{Pair, pairIll, itsRuns, pairChecks, pairCheck, pairGave}
 use Rattle.runs.specs.Inside.Rows.{buildRows}
-use Rattle.runs.specs.Sweep.{allRows, answer, areRuns}
-use Rattle.runs.proofs.Whole.{slices-rows, slices-sorted, whole-starts, whole-hops}
+use Rattle.sweep.specs.Sweep.{allRows, answer, areRuns}
+use Rattle.runs.proofs.WholeList.{slices-rows, slices-sorted, whole-starts, whole-hops}
 
 -- A build goes by the list test, and then by the room.
 module _ (l : ListLent) (s : SlotsLent) where

@@ -3,5 +3,4 @@ pub mod Build
 pub mod Pair
 pub mod Bytes
 pub mod Lookup
-pub mod Sweep
 pub mod Inside

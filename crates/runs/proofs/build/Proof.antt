@@ -6,7 +6,7 @@ use lib.Seq.{length-take-le}
 use denote.Ref.{now}
 use Rattle.ground.proofs.Truth.{not-true, not-false}
 use Rattle.routes.specs.WellFormed.{wellFormed}
-use Rattle.runs.proofs.Whole.{list-test, in-keys, in-hops, slices-rows, slices-sorted}
+use Rattle.runs.proofs.WholeList.{list-test, in-keys, in-hops, slices-rows, slices-sorted}
 use Rattle.runs.proofs.TableOutcomes.{build-ill, build-well}
 use borrow.Author.Needs.{needs}
 use Rattle.runs.proofs.build.Statement.{statement}

@@ -1,10 +1,10 @@
--- `runs::step` meets its contract: closing what ends at b or before leaves the stack true at b over the rows before it, and opening the
+-- `sweep::step` meets its contract: closing what ends at b or before leaves the stack true at b over the rows before it, and opening the
 -- rows at b makes it true over all rows.
 -- Assumes nothing.
 use borrow.Author.Needs.{needs}
-use Rattle.runs.proofs.Sweep.{falling, closing}
-use Rattle.runs.proofs.step.Statement.{statement}
-use Rattle.runs.proofs.step.Tie as tie
+use Rattle.sweep.proofs.Sweep.{falling, closing}
+use Rattle.sweep.proofs.step.Statement.{statement}
+use Rattle.sweep.proofs.step.Tie as tie
 
 close-ended-requires : tie.Need-close-ended-requires
 close-ended-requires c κs = let pre = c .before .before .before .pre in falling (pre .0) (pre .1)

@@ -4,7 +4,7 @@
 use mathlib.Core.Path.{_≡_, refl, sym, ap, _∙_, fun-ext}
 use mathlib.Core.Bool.{Bool, true, false}
 use mathlib.Core.List.{List, [], _∷_, map}
-use Prim.Native.Nat.{ℕ, zero, suc, _+_, _*_, _≤_, _<_}
+use Prim.Native.Nat.{ℕ, _+_, _*_, _≤_, _<_}
 use native.Mathlib.Omega.{arith}
 use lib.ListN.{length, take}
 use lib.Seq.{length-take-le}
@@ -15,18 +15,19 @@ use Rattle.ground.specs.Numbers.{done, noRoom}
 use Rattle.ground.specs.Stretch.{picked, counted, turns}
 use Rattle.ground.specs.Stretch.Count.{counted-is}
 use Rattle.cidr.specs.Prefix.{holds}
-use Rattle.routes.specs.Row.{Row, row, rowsOf, hopsOf, listRoom, those}
+use Rattle.routes.specs.Row.{Row, rowsOf, hopsOf, listRoom, those}
 use Rattle.routes.specs.WellFormed.{hopsGiven, goodRows, wellFormed, formed}
 use Rattle.routes.specs.Plain.{matching, plain}
+use Rattle.routes.proofs.RowsOf.{rows-taken}
 use Rattle.routes.proofs.Columns.{length-rows}
 use Rattle.routes.proofs.LastMatch.{lastHop, plain-last}
 use Rattle.runs.specs.Table.{runStarts, runHops, runHopsOf}
 use Rattle.runs.specs.Table.Laws.{starts-are}
 use Rattle.runs.specs.Build.{slotsLent, built, runRoom}
 use Rattle.runs.specs.Inside.Rows.{buildRows}
-use Rattle.runs.specs.Sweep.{lastOr, allRows, answer, Sorted, RunsWritten}
+use Rattle.sweep.specs.Sweep.{lastOr, allRows, answer, Sorted, RunsWritten}
+use Rattle.sweep.proofs.Sweep.{in-order}
 use Rattle.runs.proofs.Table.{runs-at-most}
-use Rattle.runs.proofs.Sweep.{in-order}
 
 -- the hop that a walk over the rows keeps is that of the last row that holds the address
 last-is : (a h : ℕ) (rows : List Row) → lastHop h a rows ≡ lastOr h (hopsOf (matching a rows))
@@ -60,13 +61,6 @@ module _ {keys hops : List ℕ} (s : Sorted keys hops) where
   at-most-twice =
       let rows : length (allRows keys hops) ≡ length keys = length-rows (length keys) keys hops (omega arith) (omega (arith, s .paired)) in
       rw rows at (runs-at-most (allRows keys hops))
-
-rows-taken : (n : ℕ) (keys hops : List ℕ) → rowsOf n (take n keys) (take n hops) ≡ rowsOf n keys hops
-unfolding rowsOf
-rows-taken zero keys hops = refl
-rows-taken (suc n) [] hops = refl
-rows-taken (suc n) (k ∷ keys) [] = refl
-rows-taken (suc n) (k ∷ keys) (h ∷ hops) = ap (row k h ∷_) (rows-taken n keys hops)
 
 -- what the list test says
 pub list-test : (count : ℕ) (keys hops : List ℕ) {b : Bool} → b ≡ formed false count keys hops → wellFormed count keys hops ≡ b

@@ -3,65 +3,25 @@
 -- that, for any f.
 -- Assumes nothing.
 use mathlib.Core.Path.{_≡_, refl, sym, ap, _∙_}
-use mathlib.Core.Bool.{Bool, true, false}
+use mathlib.Core.Bool.{true, false}
 use mathlib.Core.Logic.{⊎-elim}
-use mathlib.Core.List.{List, [], _∷_, _++_, map, map-append, append-assoc}
-use Prim.Native.Nat.{ℕ, zero, suc, _+_, _-_, _≤_, _<_}
+use mathlib.Core.List.{List, map, map-append}
+use Prim.Native.Nat.{ℕ, _+_, _-_, _≤_, _<_}
 use native.Mathlib.Numerals.{add-one}
 use native.Mathlib.Omega.{arith}
-use lib.ListN.{length, getD, take, set, length-append, length-map, length-set}
-use lib.Seq.{take-suc, take-all, length-take-le, drop-cons, set-at}
+use lib.ListN.{length, getD, take, set, length-map, length-set}
+use lib.Seq.{take-suc, take-all, length-take-le}
 use lib.Dec.{eqb}
-use borrow.Author.Tests.{eqb-true, eqb-false, eq-eqb}
-use Rattle.ground.proofs.Truth.{decided, and-left, and-right, and-both, never-both}
+use borrow.Author.Tests.{eqb-true, eqb-false}
+use Rattle.ground.proofs.Truth.{decided, and-left, and-right, and-both}
+use Rattle.ground.proofs.Map.{getD-map}
+use Rattle.ground.proofs.Slots.{written-more, same-is, same-self}
 use Rattle.ground.specs.Slots.{written, same}
-use Rattle.ground.specs.Stretch.{picked, counted, turnsFrom}
-use Rattle.ground.specs.Stretch.Laws.{picked-none, picked-suc, picked-cut}
-use Rattle.ground.specs.Stretch.Count.{counted-is, counted-le, counted-all, picked-at}
-use Rattle.ground.specs.Stretch.Turns.{turns-at-first, turns-of-ne, stays-of-same}
-use Rattle.runs.specs.Sweep.{lastOr, allRows, answer, Sorted, Stack, Turned, RunsWritten, areRuns}
-use Rattle.runs.proofs.Table.{getD-map}
-use Rattle.runs.proofs.Sweep.{few-open, standing-answer}
-
-picked-empty : (p : ℕ → Bool) (lo n : ℕ) → ((a : ℕ) → lo ≤ a → a < lo + n → p a ≡ false) → picked p lo n ≡ []
-picked-empty p lo zero h = picked-none p lo
-picked-empty p lo (suc n) h =
-    rw (picked-suc, h lo (omega arith) (omega arith)) (picked-empty p (suc lo) n (λ a l m. h a (omega arith) (omega arith)))
-
-pub counted-at-most : (p : ℕ → Bool) (lo n : ℕ) → counted p lo n ≤ n
-counted-at-most p lo n =
-    omega (arith, counted-le p (λ a. true) lo n (λ a l m e. refl), counted-all (λ a. true) lo n (λ a l m. refl))
-
--- the starts of the runs of f from the start up to b
-abbrev startsTo : ℕ → (ℕ → ℕ) → ℕ → List ℕ
-startsTo start f b = picked (turnsFrom start f) start (b - start)
-
-starts-none : (start : ℕ) (f : ℕ → ℕ) (at : ℕ) → at ≡ start → startsTo start f at ≡ []
-starts-none start f at e = let none : at - start ≡ 0 = omega arith in rw (none, picked-none)
-
-pub counted-nothing : (start : ℕ) (f : ℕ → ℕ) (at : ℕ) → at ≡ start → 0 ≡ counted (turnsFrom start f) start (at - start)
-counted-nothing start f at e = rw (counted-is, starts-none start f at e)
-
--- from one turn to the next
-module _ (start : ℕ) (f : ℕ → ℕ) (at b : ℕ) (from : start ≤ at) (past : at < b) (stays : (a : ℕ) → at ≤ a → a < b → f a ≡ f at) where
-  turns-again : (f b ≡ f at → ⊥) → turnsFrom start f b ≡ true
-  turns-again ne = turns-of-ne start f b (λ e. ne (e ∙ stays (b - 1) (omega arith) (omega arith)))
-
-  picked-turn : turnsFrom start f at ≡ true → startsTo start f b ≡ startsTo start f at ++ (at ∷ [])
-  picked-turn e =
-      let whole : b - start ≡ (at - start) + suc (b - suc at) = omega arith in
-      let there : start + (at - start) ≡ at = omega arith in
-      ap (picked (turnsFrom start f) start) whole ∙ picked-cut (turnsFrom start f) start (at - start) (suc (b - suc at))
-      ∙ rw (there, picked-suc, e, none-between)
-    where
-      none-between : picked (turnsFrom start f) (suc at) (b - suc at) ≡ []
-      none-between = picked-empty (turnsFrom start f) (suc at) (b - suc at)
-          (λ a l m.
-          stays-of-same start f a (omega arith) (stays a (omega arith) (omega arith) ∙ sym (stays (a - 1) (omega arith) (omega arith))))
-
-  counted-turn : turnsFrom start f at ≡ true
-      → counted (turnsFrom start f) start (b - start) ≡ counted (turnsFrom start f) start (at - start) + 1
-  counted-turn e = simp counted-is (rw (picked-turn e, length-append))
+use Rattle.ground.specs.Stretch.{counted, turnsFrom}
+use Rattle.ground.specs.Stretch.Count.{counted-is, counted-at-most, picked-at}
+use Rattle.ground.specs.Stretch.Turns.{turns-at-first, turnsTo, turns-to-first, counted-to-first, turns-next, turns-to-next, counted-to-next}
+use Rattle.sweep.specs.Sweep.{lastOr, allRows, answer, Sorted, Stack, Turned, RunsWritten, areRuns}
+use Rattle.sweep.proofs.Sweep.{few-open, standing-answer}
 
 -- The sweep at a turn of the rows' answer, or at the limit.
 pub record Sweeping (keys hops : List ℕ) (base start limit : ℕ) (ends labels : List ℕ) (row depth at : ℕ) : Type 0 where
@@ -95,21 +55,14 @@ module _ {keys hops ends labels : List ℕ} {base start limit row depth at : ℕ
       from = omega (arith, w .from, t .past);
       upto = t .upto;
       stands = t .stands;
-      turn = λ l. turns-again start (answer base (allRows keys hops)) at at′ (w .from) (t .past) (t .stays) (t .turned l);
+      turn = λ l. turns-next start (answer base (allRows keys hops)) at at′ (w .from) (t .past) (t .stays) (t .turned l);
     }
 
     pub sweeping-counted : {n : ℕ} → n ≡ counted (turnsFrom start (answer base (allRows keys hops))) start (at - start)
         → n + 1 ≡ counted (turnsFrom start (answer base (allRows keys hops))) start (at′ - start)
-    sweeping-counted e = rw e (sym (counted-turn start (answer base (allRows keys hops)) at at′ (w .from) (t .past) (t .stays) (w .turn before)))
+    sweeping-counted e = rw e (sym (counted-to-next start (answer base (allRows keys hops)) at at′ (w .from) (t .past) (t .stays) (w .turn before)))
 
 -- Writing: what stands in the slices are the runs before the place, and then the slots as they were.
-module _ (xs old : List ℕ) where
-  written-more : (v : ℕ) → length xs < length old → set (written xs old) (length xs) v ≡ written (xs ++ (v ∷ [])) old
-  unfolding written
-  written-more v l =
-      rw (drop-cons old (length xs) 0 l, length-append, add-one, append-assoc)
-      (set-at xs _ _ v (length xs) refl)
-
 pub record Writing (f : ℕ → ℕ) (start limit at n : ℕ) (starts₀ rhops₀ starts rhops : List ℕ) : Type 0 where
   pub room : counted (turnsFrom start f) start (limit - start) ≤ length starts₀
   pub hop-room : counted (turnsFrom start f) start (limit - start) ≤ length rhops₀
@@ -127,9 +80,9 @@ writing-start {f} {start} {at = at} e l m = record {
   as-long = refl;
   hops-as-long = refl;
   written-so-far = record {
-    count = counted-nothing start f at e;
-    starts-are = rw (starts-none start f at e);
-    hops-are = rw (starts-none start f at e);
+    count = counted-to-first start f at e;
+    starts-are = rw (turns-to-first start f at e);
+    hops-are = rw (turns-to-first start f at e);
   };
 }
 
@@ -139,7 +92,7 @@ writing-few {f} {start} {at = at} w = omega (arith, w .written-so-far .count, co
 
 module _ {f : ℕ → ℕ} {start limit at n : ℕ} {starts₀ rhops₀ starts rhops : List ℕ} (w : Writing f start limit at n starts₀ rhops₀ starts rhops)
     (from : start ≤ at) (before : at < limit) (turn : turnsFrom start f at ≡ true) where
-  so-far : n ≡ length (startsTo start f at)
+  so-far : n ≡ length (turnsTo start f at)
   so-far = w .written-so-far .count ∙ counted-is (turnsFrom start f) start (at - start)
 
   one-more : n < counted (turnsFrom start f) start (limit - start)
@@ -161,68 +114,53 @@ module _ {f : ℕ → ℕ} {start limit at n : ℕ} {starts₀ rhops₀ starts r
     as-long = length-set starts n at ∙ w .as-long;
     hops-as-long = length-set rhops n hop ∙ w .hops-as-long;
     written-so-far = record {
-      count = rw (w .written-so-far .count) (sym (counted-turn start f at at′ from past stays turn));
+      count = rw (w .written-so-far .count) (sym (counted-to-next start f at at′ from past stays turn));
       starts-are =
           rw (w .written-so-far .starts-are, so-far, written-more before-it starts₀ at (omega (arith, so-far, one-more, w .room)))
-          (rw (picked-turn start f at at′ from past stays turn));
+          (rw (turns-to-next start f at at′ from past stays turn));
       hops-are =
           rw (w .written-so-far .hops-are, e, hops-so-far, written-more (map f before-it) rhops₀ (f at) hop-below)
-          (rw (picked-turn start f at at′ from past stays turn, map-append));
+          (rw (turns-to-next start f at at′ from past stays turn, map-append));
     };
   }
     where
       before-it : List ℕ
-      before-it = startsTo start f at
+      before-it = turnsTo start f at
 
-      hops-so-far : n ≡ length (map f (startsTo start f at))
-      hops-so-far = so-far ∙ sym (length-map (startsTo start f at) f)
+      hops-so-far : n ≡ length (map f (turnsTo start f at))
+      hops-so-far = so-far ∙ sym (length-map (turnsTo start f at) f)
 
-      hop-below : length (map f (startsTo start f at)) < length rhops₀
+      hop-below : length (map f (turnsTo start f at)) < length rhops₀
       hop-below = omega (arith, hops-so-far, one-more, w .hop-room)
 
 -- Comparing: what was passed of the slices are the runs before the place.
-same-is : (xs ys : List ℕ) → same xs ys ≡ true → xs ≡ ys
-unfolding same
-same-is [] [] e = refl
-same-is [] (y ∷ ys) e = never-both e refl
-same-is (x ∷ xs) [] e = never-both e refl
-same-is (x ∷ xs) (y ∷ ys) e =
-    let heads = eqb-true x y (and-left (eqb x y) (same xs ys) e) in
-    let tails = same-is xs ys (and-right (eqb x y) (same xs ys) e) in
-    cc
-
-same-self : (xs : List ℕ) → same xs xs ≡ true
-unfolding same
-same-self [] = refl
-same-self (x ∷ xs) = and-both (eq-eqb x x refl) (same-self xs)
-
 module _ (f : ℕ → ℕ) (start limit : ℕ) (starts rhops : List ℕ) where
-  are-parts : areRuns f start limit starts rhops ≡ true → (starts ≡ startsTo start f limit) × (rhops ≡ map f (startsTo start f limit))
+  are-parts : areRuns f start limit starts rhops ≡ true → (starts ≡ turnsTo start f limit) × (rhops ≡ map f (turnsTo start f limit))
   unfolding areRuns
   are-parts e =
-      let starts-same = same starts (startsTo start f limit) in
+      let starts-same = same starts (turnsTo start f limit) in
       (same-is _ _ (and-left starts-same _ e), same-is _ _ (and-right starts-same _ e))
 
-  are-not : ((starts ≡ startsTo start f limit) × (rhops ≡ map f (startsTo start f limit)) → ⊥) → areRuns f start limit starts rhops ≡ false
+  are-not : ((starts ≡ turnsTo start f limit) × (rhops ≡ map f (turnsTo start f limit)) → ⊥) → areRuns f start limit starts rhops ≡ false
   are-not h = ⊎-elim (λ e. absurd (h (are-parts e))) (λ e. e) (decided (areRuns f start limit starts rhops))
 
-  are-runs : starts ≡ startsTo start f limit → rhops ≡ map f (startsTo start f limit) → areRuns f start limit starts rhops ≡ true
+  are-runs : starts ≡ turnsTo start f limit → rhops ≡ map f (turnsTo start f limit) → areRuns f start limit starts rhops ≡ true
   unfolding areRuns
-  are-runs e e′ = rw (e, e′) (and-both (same-self (startsTo start f limit)) (same-self (map f (startsTo start f limit))))
+  are-runs e e′ = rw (e, e′) (and-both (same-self (turnsTo start f limit)) (same-self (map f (turnsTo start f limit))))
 
 pub record Comparing (f : ℕ → ℕ) (start at n : ℕ) (starts rhops : List ℕ) : Type 0 where
   pub paired : length rhops ≡ length starts
   pub within : n ≤ length starts
-  pub starts-same : take n starts ≡ startsTo start f at
-  pub hops-same : take n rhops ≡ map f (startsTo start f at)
+  pub starts-same : take n starts ≡ turnsTo start f at
+  pub hops-same : take n rhops ≡ map f (turnsTo start f at)
 
 pub comparing-start : {f : ℕ → ℕ} {start at : ℕ} {starts rhops : List ℕ} → at ≡ start → length rhops ≡ length starts
     → Comparing f start at 0 starts rhops
 comparing-start {f} {start} {at} z e =
-    let none = starts-none start f at z in record { paired = e; within = omega arith; starts-same = rw none; hops-same = rw none }
+    let none = turns-to-first start f at z in record { paired = e; within = omega arith; starts-same = rw none; hops-same = rw none }
 
 module _ {f : ℕ → ℕ} {start at n : ℕ} {starts rhops : List ℕ} (k : Comparing f start at n starts rhops) where
-  passed : n ≡ length (startsTo start f at)
+  passed : n ≡ length (turnsTo start f at)
   passed = sym (length-take-le n starts (k .within)) ∙ ap length (k .starts-same)
 
   pub comparing-end : eqb n (length starts) ≡ areRuns f start at starts rhops
@@ -238,7 +176,7 @@ module _ {f : ℕ → ℕ} {start at n : ℕ} {starts rhops : List ℕ} (k : Com
       short e = e ∙ sym (are-not f start at starts rhops (λ w. eqb-false n (length starts) e (passed ∙ sym (ap length (w .0)))))
 
   module _ (from : start ≤ at) {limit : ℕ} (before : at < limit) (turn : turnsFrom start f at ≡ true) where
-    found : (n < length (startsTo start f limit)) × (getD (startsTo start f limit) n 0 ≡ at)
+    found : (n < length (turnsTo start f limit)) × (getD (turnsTo start f limit) n 0 ≡ at)
     found =
         rw (passed, ← counted-is (turnsFrom start f) start (at - start))
         (picked-at (turnsFrom start f) start (limit - start) (at - start) at (omega arith) (omega arith) turn)
@@ -252,15 +190,15 @@ module _ {f : ℕ → ℕ} {start at n : ℕ} {starts rhops : List ℕ} (k : Com
     pub other-hop : (getD rhops n 0 ≡ f at → ⊥) → false ≡ areRuns f start limit starts rhops
     other-hop ne =
         sym (are-not f start limit starts rhops
-        (λ w. ne (ap (λ xs. getD xs n 0) (w .1) ∙ getD-map f (startsTo start f limit) n (found .0) ∙ ap f (found .1))))
+        (λ w. ne (ap (λ xs. getD xs n 0) (w .1) ∙ getD-map f (turnsTo start f limit) n (found .0) ∙ ap f (found .1))))
 
   pub comparing-on : {at′ : ℕ} → start ≤ at → at < at′ → ((a : ℕ) → at ≤ a → a < at′ → f a ≡ f at) → turnsFrom start f at ≡ true → n < length starts
       → getD starts n 0 ≡ at → getD rhops n 0 ≡ f at → Comparing f start at′ (n + 1) starts rhops
   comparing-on {at′} from past stays turn l e e′ = record {
     paired = k .paired;
     within = omega arith;
-    starts-same = rw (add-one, take-suc starts n 0 l, e, k .starts-same) (sym (picked-turn start f at at′ from past stays turn));
+    starts-same = rw (add-one, take-suc starts n 0 l, e, k .starts-same) (sym (turns-to-next start f at at′ from past stays turn));
     hops-same =
         rw (add-one, take-suc rhops n 0 (omega (arith, k .paired)), e′, k .hops-same)
-        (sym (rw (picked-turn start f at at′ from past stays turn, map-append)));
+        (sym (rw (turns-to-next start f at at′ from past stays turn, map-append)));
   }

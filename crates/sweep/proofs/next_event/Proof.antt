@@ -1,13 +1,13 @@
--- `runs::next_event` meets its contract: b is the limit, lowered to the next row's network and to the end of the last open prefix, each of
+-- `sweep::next_event` meets its contract: b is the limit, lowered to the next row's network and to the end of the last open prefix, each of
 -- which is past the address.
 -- Assumes nothing.
 use mathlib.Core.Logic.{⊎-elim}
 use native.Mathlib.Omega.{arith}
 use denote.Ref.{now}
 use borrow.Author.Needs.{needs}
-use Rattle.runs.proofs.Sweep.{RowEvent}
-use Rattle.runs.proofs.next_event.Statement.{statement}
-use Rattle.runs.proofs.next_event.Tie as tie
+use Rattle.sweep.proofs.Sweep.{RowEvent}
+use Rattle.sweep.proofs.next_event.Statement.{statement}
+use Rattle.sweep.proofs.next_event.Tie as tie
 
 mul-network : tie.Need-mul-network
 mul-network c = search needs

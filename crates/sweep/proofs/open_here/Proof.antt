@@ -1,4 +1,4 @@
--- `runs::open_here` meets its contract. The loop keeps the stack true over the rows before `row`, whose networks are at most the address.
+-- `sweep::open_here` meets its contract. The loop keeps the stack true over the rows before `row`, whose networks are at most the address.
 -- A turn opens one row more; the loop ends at a row whose network is past the address, or past the last row.
 -- Assumes nothing.
 use mathlib.Core.Path.{_≡_, refl, sym, _∙_}
@@ -8,10 +8,10 @@ use lib.ListN.{length, getD}
 use denote.Ref.{now}
 use borrow.Author.Needs.{needs}
 use Rattle.cidr.specs.Prefix.{network}
-use Rattle.runs.specs.Sweep.{Sorted, Stack}
-use Rattle.runs.proofs.Sweep.{opening, room-above, all-open}
-use Rattle.runs.proofs.open_here.Statement.{statement}
-use Rattle.runs.proofs.open_here.Tie as tie
+use Rattle.sweep.specs.Sweep.{Sorted, Stack}
+use Rattle.sweep.proofs.Sweep.{opening, room-above, all-open}
+use Rattle.sweep.proofs.open_here.Statement.{statement}
+use Rattle.sweep.proofs.open_here.Tie as tie
 
 abbrev Inv-loop : tie.InvT-loop
 Inv-loop keys hops ends₀ labels₀ at row₀ depth₀ ends labels row depth = Sorted keys hops × Stack keys hops ends labels row depth at at

@@ -1,13 +1,13 @@
--- `runs::write_runs` meets its contract. The loop stands at a turn of the answer, or at the limit, and has written the runs before it.
+-- `sweep::write_runs` meets its contract. The loop stands at a turn of the answer, or at the limit, and has written the runs before it.
 -- Assumes nothing.
 use mathlib.Core.Path.{_≡_, refl}
 use Prim.Native.Nat.{_-_, _≤_}
 use native.Mathlib.Omega.{arith}
-use Rattle.runs.specs.Sweep.{allRows, answer}
-use Rattle.runs.proofs.Turning.{Sweeping, sweeping-start, sweeping-asks, sweeping-top-asks, sweeping-top, sweeping-on}
-use Rattle.runs.proofs.Turning.{Writing, writing-start, writing-few, start-fits, hop-fits, writing-on}
-use Rattle.runs.proofs.write_runs.Statement.{statement}
-use Rattle.runs.proofs.write_runs.Tie as tie
+use Rattle.sweep.specs.Sweep.{allRows, answer}
+use Rattle.sweep.proofs.Turning.{Sweeping, sweeping-start, sweeping-asks, sweeping-top-asks, sweeping-top, sweeping-on}
+use Rattle.sweep.proofs.Turning.{Writing, writing-start, writing-few, start-fits, hop-fits, writing-on}
+use Rattle.sweep.proofs.write_runs.Statement.{statement}
+use Rattle.sweep.proofs.write_runs.Tie as tie
 
 abbrev Inv-loop : tie.InvT-loop
 Inv-loop keys hops base start limit starts₀ rhops₀ ends₀ labels₀ s₀ n₀ starts rhops ends labels s n =

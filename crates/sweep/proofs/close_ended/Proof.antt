@@ -1,4 +1,4 @@
--- `runs::close_ended` meets its contract. The loop keeps true that the ends from d on are at most b; it stops at an end above b, and then
+-- `sweep::close_ended` meets its contract. The loop keeps true that the ends from d on are at most b; it stops at an end above b, and then
 -- the ends before it are above b too, since they fall.
 -- Assumes nothing.
 use Prim.Native.Nat.{ℕ, _-_, _≤_, _<_}
@@ -6,9 +6,9 @@ use native.Mathlib.Omega.{arith}
 use lib.ListN.{getD}
 use denote.Ref.{now}
 use borrow.Author.Needs.{needs}
-use Rattle.runs.proofs.Sweep.{gone-more}
-use Rattle.runs.proofs.close_ended.Statement.{statement}
-use Rattle.runs.proofs.close_ended.Tie as tie
+use Rattle.sweep.proofs.Sweep.{gone-more}
+use Rattle.sweep.proofs.close_ended.Statement.{statement}
+use Rattle.sweep.proofs.close_ended.Tie as tie
 
 abbrev Inv-loop : tie.InvT-loop
 Inv-loop ends depth b d₀ d = (d ≤ depth) × ((i : ℕ) → d ≤ i → i < depth → getD ends i 0 ≤ b)

@@ -7,80 +7,28 @@
 use mathlib.Core.Path.{_≡_, refl, sym, ap, _∙_}
 use mathlib.Core.Bool.{Bool, true, false}
 use mathlib.Core.Logic.{⊎-elim}
-use mathlib.Core.List.{List, [], _∷_, _++_, map, append-nil, map-append}
+use mathlib.Core.List.{List, [], _∷_, _++_, map, map-append}
 use Prim.Native.Nat.{ℕ, zero, suc, _+_, _-_, _≤_, _<_}
-use native.Mathlib.Nat.{le-refl, le-antisymm, eq-or-lt-of-le, add-zero, add-suc}
+use native.Mathlib.Nat.{le-antisymm, eq-or-lt-of-le, add-zero, add-suc}
 use native.Mathlib.Numerals.{add-one}
 use native.Mathlib.Omega.{arith}
-use lib.ListN.{length, getD, take, set, length-append, length-map, length-set, List·getD-append}
-use lib.Seq.{take-nil, take-length, take-suc, take-take, getD-append-seam, getD-take, length-take-le, take-suc-set}
+use lib.ListN.{length, getD, take, set, length-append, length-map, length-set}
+use lib.Seq.{take-nil, take-length, take-suc, take-take, getD-take, length-take-le, take-suc-set}
 use lib.Dec.{leb, ltb}
 use borrow.Author.Tests.{leb-true, leb-false, ltb-true, ltb-false, lt-ltb, le-ltb}
-use Rattle.ground.proofs.Truth.{never-both, decided, and-left, and-right}
-use Rattle.ground.specs.Column.{below, ascends}
+use Rattle.ground.proofs.Truth.{decided, and-left, and-right}
+use Rattle.ground.proofs.Map.{map-take}
+use Rattle.ground.proofs.Ascends.{ascends-at}
+use Rattle.ground.proofs.Falls.{Falls, least-snoc, falls-snoc}
 use Rattle.cidr.specs.Prefix.{network, lengthOf, endOf, isPrefix, holds}
-use Rattle.cidr.proofs.Prefix.{prefix-parts, within-holds, holds-from, holds-to, longer-later, ends-earlier, size-pos}
-use Rattle.routes.specs.Row.{Row, row, rowsOf, keysOf, every, keepRow, those}
+use Rattle.cidr.proofs.Prefix.{prefix-parts, within-holds, holds-to, not-before, not-after, ended-of-not, longer-later, ends-earlier, size-pos}
+use Rattle.routes.specs.Row.{Row, rowsOf, keysOf, those}
 use Rattle.routes.specs.WellFormed.{prefixes, ascending, halfRows}
 use Rattle.routes.specs.Plain.{matching}
+use Rattle.routes.proofs.Row.{those-one, those-none}
+use Rattle.routes.proofs.RowsOf.{rowAt, rows-suc, every-at}
 use Rattle.routes.proofs.Columns.{keys-of-rows}
-use Rattle.runs.specs.Sweep.{From, lastOr, endsOf, allRows, answer, Sorted, Stack, Falling, Closed, Poised, Event, Turned}
-
--- the row at a place
-abbrev rowAt : List ℕ → List ℕ → ℕ → Row
-rowAt keys hops i = row (getD keys i 0) (getD hops i 0)
-
--- one row more
-rows-suc : (i : ℕ) (keys hops : List ℕ) → i < length keys → i < length hops
-    → rowsOf (suc i) keys hops ≡ rowsOf i keys hops ++ (rowAt keys hops i ∷ [])
-unfolding rowsOf
-rows-suc i [] hops l m = absurd (omega arith)
-rows-suc i (k ∷ keys) [] l m = absurd (omega arith)
-rows-suc zero (k ∷ keys) (h ∷ hops) l m = refl
-rows-suc (suc i) (k ∷ keys) (h ∷ hops) l m = ap (row k h ∷_) (rows-suc i keys hops (omega arith) (omega arith))
-
-module _ (p : Row → Bool) where
-  those-append : (xs ys : List Row) → those p (xs ++ ys) ≡ those p xs ++ those p ys
-  unfolding those
-  those-append [] ys = refl
-  those-append (x ∷ xs) ys = rw (those-append xs ys) (go (p x))
-    where
-      go : (b : Bool) → keepRow b x (those p xs ++ those p ys) ≡ keepRow b x (those p xs) ++ those p ys
-      go true = refl
-      go false = refl
-
-  those-one : (xs : List Row) (r : Row) → p r ≡ true → those p (xs ++ (r ∷ [])) ≡ those p xs ++ (r ∷ [])
-  unfolding those
-  those-one xs r e = those-append xs (r ∷ []) ∙ rw e
-
-  those-none : (xs : List Row) (r : Row) → p r ≡ false → those p (xs ++ (r ∷ [])) ≡ those p xs
-  unfolding those
-  those-none xs r e = those-append xs (r ∷ []) ∙ rw (e, append-nil)
-
--- What the rows' order says of the keys.
-every-at : (p : Row → Bool) (n : ℕ) (keys hops : List ℕ) → every p (rowsOf n keys hops) ≡ true → (i : ℕ) → i < n → i < length keys
-    → i < length hops → p (rowAt keys hops i) ≡ true
-unfolding every rowsOf
-every-at p zero keys hops e i l m h = absurd (omega arith)
-every-at p (suc n) [] hops e i l m h = absurd (omega arith)
-every-at p (suc n) (k ∷ keys) [] e i l m h = absurd (omega arith)
-every-at p (suc n) (k ∷ keys) (h ∷ hops) e zero l m o = and-left (p (row k h)) _ e
-every-at p (suc n) (k ∷ keys) (h ∷ hops) e (suc i) l m o =
-    every-at p n keys hops (and-right (p (row k h)) _ e) i (omega arith) (omega arith) (omega arith)
-
-first-least : (x : ℕ) (xs : List ℕ) → ascends (x ∷ xs) ≡ true → (j : ℕ) → j < length xs → x < getD xs j 0
-unfolding ascends
-first-least x [] a j l = absurd (omega arith)
-first-least x (y ∷ ys) a zero l = ltb-true x y (and-left (ltb x y) _ a)
-first-least x (y ∷ ys) a (suc j) l =
-    omega (arith, ltb-true x y (and-left (ltb x y) _ a), first-least y ys (and-right (ltb x y) _ a) j (omega arith))
-
-ascends-at : (xs : List ℕ) → ascends xs ≡ true → (i j : ℕ) → i < j → j < length xs → getD xs i 0 < getD xs j 0
-unfolding ascends
-ascends-at [] a i j l m = absurd (omega arith)
-ascends-at (x ∷ xs) a i zero l m = absurd (omega arith)
-ascends-at (x ∷ xs) a zero (suc j) l m = first-least x xs a j (omega arith)
-ascends-at (x ∷ xs) a (suc i) (suc j) l m = ascends-at xs (and-right (below x xs) _ a) i j (omega arith) (omega arith)
+use Rattle.sweep.specs.Sweep.{From, lastOr, endsOf, allRows, answer, Sorted, Stack, Falling, Closed, Poised, Event, Turned}
 
 module _ {keys hops : List ℕ} (s : Sorted keys hops) where
   prefixed : (i : ℕ) → i < length keys → isPrefix (getD keys i 0) ≡ true
@@ -104,26 +52,9 @@ module _ {keys hops : List ℕ} (s : Sorted keys hops) where
 data Matched (keys hops : List ℕ) (a : ℕ) : ℕ → List Row → Type 0 where
   start : Matched keys hops a 0 []
   more : {i : ℕ} {m : List Row} → i < length keys → holds (getD keys i 0) a ≡ true → Matched keys hops a i m
-      → Matched keys hops a (suc i) (m ++ (rowAt keys hops i ∷ []))
+      → Matched keys hops a (suc i) (m ++ rowAt keys hops i ∷ [])
   pass : {i : ℕ} {m : List Row} → i < length keys → holds (getD keys i 0) a ≡ false → Matched keys hops a i m
       → Matched keys hops a (suc i) m
-
--- the ends fall, or stay, from each to the next
-abbrev Falls : List ℕ → Type 0
-Falls xs = (i j : ℕ) → i ≤ j → j < length xs → getD xs j 0 ≤ getD xs i 0
-
-module _ (xs : List ℕ) (e : ℕ) where
-  all-snoc : (b : ℕ) → ((k : ℕ) → k < length xs → b ≤ getD xs k 0) → b ≤ e → (k : ℕ) → k ≤ length xs → b ≤ getD (xs ++ (e ∷ [])) k 0
-  all-snoc b h le k l = ⊎-elim
-      (λ (q : k ≡ length xs). rw (q, getD-append-seam) le)
-      (λ lt. rw (List·getD-append xs (e ∷ []) 0 k lt) (h k lt))
-      (eq-or-lt-of-le l)
-
-  falls-snoc : Falls xs → ((k : ℕ) → k < length xs → e ≤ getD xs k 0) → Falls (xs ++ (e ∷ []))
-  falls-snoc f h i j l m = ⊎-elim
-      (λ (q : j ≡ length xs). rw (q, getD-append-seam) (all-snoc e h (le-refl e) i (omega arith)))
-      (λ lt. rw (List·getD-append xs (e ∷ []) 0 j lt, List·getD-append xs (e ∷ []) 0 i (omega arith)) (f i j l lt))
-      (eq-or-lt-of-le (omega (arith, rw length-append at m)))
 
 -- the row's prefix ends after b
 abbrev after : ℕ → Row → Bool
@@ -141,22 +72,13 @@ those-after b (r ∷ m) (suc d) kept gone =
     rw (lt-ltb b (endOf (r .key)) (kept 0 (omega arith)))
     (ap (r ∷_) (those-after b m d (λ i l. kept (suc i) (omega arith)) (λ i l lt. gone (suc i) (omega arith) (omega arith))))
 
-map-take : (f : Row → ℕ) (d : ℕ) (m : List Row) → map f (take d m) ≡ take d (map f m)
-map-take f zero m = refl
-map-take f (suc d) [] = refl
-map-take f (suc d) (r ∷ m) = ap (f r ∷_) (map-take f d m)
-
--- an address before the network isn't held
-not-yet : (key a : ℕ) → a < network key → holds key a ≡ false
-not-yet key a l = ⊎-elim (λ e. absurd (omega (arith, holds-from key a e))) (λ e. e) (decided (holds key a))
-
 module _ {keys hops : List ℕ} (s : Sorted keys hops) where
   in-hops : (i : ℕ) → i < length keys → i < length hops
   in-hops i l = omega (arith, s .paired)
 
   module _ (a i : ℕ) (l : i < length keys) where
     grow-in : holds (getD keys i 0) a ≡ true
-        → matching a (rowsOf (suc i) keys hops) ≡ matching a (rowsOf i keys hops) ++ (rowAt keys hops i ∷ [])
+        → matching a (rowsOf (suc i) keys hops) ≡ matching a (rowsOf i keys hops) ++ rowAt keys hops i ∷ []
     unfolding matching
     grow-in e = rw (rows-suc i keys hops l (in-hops i l)) (those-one _ _ _ e)
 
@@ -196,7 +118,7 @@ module _ {keys hops : List ℕ} (s : Sorted keys hops) where
     end-above start j l lt e k h = absurd (omega arith)
     end-above (more {i} {m} g q rest) j l lt e k h =
         rw map-append
-        (all-snoc (endsOf m) (endOf (getD keys i 0)) _ (λ x y. end-above rest j (omega arith) lt e x y)
+        (least-snoc (endsOf m) (endOf (getD keys i 0)) _ (λ x y. end-above rest j (omega arith) lt e x y)
         (ends-earlier (getD keys i 0) (getD keys j 0) a (climbs s i j l lt) q e) k (omega (arith, simp (map-append, length-append) at h)))
     end-above (pass g q rest) j l lt e k h = end-above rest j (omega arith) lt e k h
 
@@ -205,7 +127,7 @@ module _ {keys hops : List ℕ} (s : Sorted keys hops) where
     end-past start k h = absurd (omega arith)
     end-past (more {i} {m} g q rest) k h =
         rw map-append
-        (all-snoc (endsOf m) (endOf (getD keys i 0)) (suc a) (λ x y. end-past rest x y) (holds-to (getD keys i 0) a q) k
+        (least-snoc (endsOf m) (endOf (getD keys i 0)) (suc a) (λ x y. end-past rest x y) (holds-to (getD keys i 0) a q) k
         (omega (arith, simp (map-append, length-append) at h)))
     end-past (pass g q rest) k h = end-past rest k h
 
@@ -220,14 +142,10 @@ module _ {keys hops : List ℕ} (s : Sorted keys hops) where
     still-in : (i : ℕ) → i < length keys → network (getD keys i 0) ≤ at → b < endOf (getD keys i 0) → holds (getD keys i 0) b ≡ true
     still-in i l p lt = within-holds (getD keys i 0) b (prefix-parts (getD keys i 0) (prefixed s i l)) (omega arith) lt
 
-    ended : (i : ℕ) → endOf (getD keys i 0) ≤ b → holds (getD keys i 0) b ≡ false
-    ended i h = ⊎-elim (λ e. absurd (omega (arith, holds-to (getD keys i 0) b e))) (λ e. e) (decided (holds (getD keys i 0) b))
-
     never-in : (i : ℕ) → i < length keys → network (getD keys i 0) ≤ at → holds (getD keys i 0) at ≡ false → holds (getD keys i 0) b ≡ false
     never-in i l p e =
         let parts = prefix-parts (getD keys i 0) (prefixed s i l) in
-        let no-more : ¬ (b < endOf (getD keys i 0)) = λ lt. never-both (within-holds (getD keys i 0) at parts p (omega arith)) e in
-        ended i (omega arith)
+        not-after (getD keys i 0) b (omega (arith, ended-of-not (getD keys i 0) at parts p e))
 
     still-matched : {i : ℕ} {m : List Row} → Matched keys hops at i m → ((j : ℕ) → j < i → network (getD keys j 0) ≤ at)
         → matching b (rowsOf i keys hops) ≡ those (after b) m
@@ -236,9 +154,9 @@ module _ {keys hops : List ℕ} (s : Sorted keys hops) where
     still-matched (more {i} {m} l q rest) p = go (ltb b (endOf (getD keys i 0))) refl (still-matched rest (λ j lt. p j (omega arith)))
       where
         go : (t : Bool) → ltb b (endOf (getD keys i 0)) ≡ t → matching b (rowsOf i keys hops) ≡ those (after b) m
-            → matching b (rowsOf (suc i) keys hops) ≡ those (after b) (m ++ (rowAt keys hops i ∷ []))
+            → matching b (rowsOf (suc i) keys hops) ≡ those (after b) (m ++ rowAt keys hops i ∷ [])
         go true e rec = grow-in b i l (still-in i l (p i (omega arith)) (ltb-true _ _ e)) ∙ rw rec (sym (those-one (after b) m _ e))
-        go false e rec = grow-out b i l (ended i (ltb-false _ _ e)) ∙ rw rec (sym (those-none (after b) m _ e))
+        go false e rec = grow-out b i l (not-after (getD keys i 0) b (ltb-false _ _ e)) ∙ rw rec (sym (those-none (after b) m _ e))
     still-matched (pass {i} l q rest) p =
         grow-out b i l (never-in i l (p i (omega arith)) q) ∙ still-matched rest (λ j lt. p j (omega arith))
 
@@ -248,7 +166,7 @@ module _ {keys hops : List ℕ} (s : Sorted keys hops) where
   none-ahead a row zero l h = rw add-zero
   none-ahead a row (suc d) l h =
       rw add-suc
-      (grow-out a (row + d) (omega arith) (not-yet _ a (h (row + d) (omega arith) (omega arith)))
+      (grow-out a (row + d) (omega arith) (not-before _ a (h (row + d) (omega arith) (omega arith)))
       ∙ none-ahead a row d (omega arith) h)
 
   -- the network of a listed row is at most those of the rows after it
@@ -357,7 +275,7 @@ module _ {keys hops ends labels : List ℕ} {row depth at : ℕ} (s : Sorted key
       within-holds (getD keys row 0) at (prefix-parts (getD keys row 0) (prefixed s row l)) (omega arith)
       (omega (arith, size-pos (lengthOf (getD keys row 0))))
 
-  one-more : matching at (rowsOf (row + 1) keys hops) ≡ matching at (rowsOf row keys hops) ++ (rowAt keys hops row ∷ [])
+  one-more : matching at (rowsOf (row + 1) keys hops) ≡ matching at (rowsOf row keys hops) ++ rowAt keys hops row ∷ []
   one-more = rw add-one (grow-in s at row l holds-here)
 
   deeper : depth + 1 ≡ length (matching at (rowsOf (row + 1) keys hops))

@@ -1,15 +1,15 @@
--- `runs::same_runs` meets its contract. The loop stands at a turn of the answer, or at the limit; the runs before it are the first n of the
+-- `sweep::same_runs` meets its contract. The loop stands at a turn of the answer, or at the limit; the runs before it are the first n of the
 -- slices. It ends with false at the first run that differs or is missing, and at the limit asks whether the slices have more.
 -- Assumes nothing.
 use mathlib.Core.Path.{_≡_, refl, sym, _∙_}
 use Prim.Native.Nat.{_-_}
 use native.Mathlib.Omega.{arith}
 use borrow.Author.Needs.{needs}
-use Rattle.runs.specs.Sweep.{allRows, answer}
-use Rattle.runs.proofs.Turning.{Sweeping, sweeping-start, sweeping-asks, sweeping-top-asks, sweeping-top, sweeping-on}
-use Rattle.runs.proofs.Turning.{Comparing, comparing-start, too-few, other-start, other-hop, comparing-on, comparing-end}
-use Rattle.runs.proofs.same_runs.Statement.{statement}
-use Rattle.runs.proofs.same_runs.Tie as tie
+use Rattle.sweep.specs.Sweep.{allRows, answer}
+use Rattle.sweep.proofs.Turning.{Sweeping, sweeping-start, sweeping-asks, sweeping-top-asks, sweeping-top, sweeping-on}
+use Rattle.sweep.proofs.Turning.{Comparing, comparing-start, too-few, other-start, other-hop, comparing-on, comparing-end}
+use Rattle.sweep.proofs.same_runs.Statement.{statement}
+use Rattle.sweep.proofs.same_runs.Tie as tie
 
 abbrev Inv-loop : tie.InvT-loop
 Inv-loop keys hops base start limit starts rhops ends₀ labels₀ s₀ n₀ ends labels s n =

@@ -1,12 +1,12 @@
--- `runs::next_turn` meets its contract. The loop keeps `Going` true: up to where it stands the answer is the one it started with. It ends
+-- `sweep::next_turn` meets its contract. The loop keeps `Going` true: up to where it stands the answer is the one it started with. It ends
 -- at the limit, or at an event where the answer is another.
 -- Assumes nothing.
 use Prim.Native.Nat.{_-_}
 use native.Mathlib.Omega.{arith}
-use Rattle.runs.proofs.Sweep.{few-open, poised}
-use Rattle.runs.proofs.Sweep.{Going, going-start, going-event, going-end, going-turned, going-on}
-use Rattle.runs.proofs.next_turn.Statement.{statement}
-use Rattle.runs.proofs.next_turn.Tie as tie
+use Rattle.sweep.proofs.Sweep.{few-open, poised}
+use Rattle.sweep.proofs.Sweep.{Going, going-start, going-event, going-end, going-turned, going-on}
+use Rattle.sweep.proofs.next_turn.Statement.{statement}
+use Rattle.sweep.proofs.next_turn.Tie as tie
 
 abbrev Inv-loop : tie.InvT-loop
 Inv-loop keys hops base limit ends₀ labels₀ hop s₀ ends labels s =

@@ -1,11 +1,11 @@
--- `runs::top_hop` meets its contract: the last of the first `depth` labels, or the base where there is none.
+-- `sweep::top_hop` meets its contract: the last of the first `depth` labels, or the base where there is none.
 -- Assumes nothing.
 use native.Mathlib.Omega.{arith}
 use denote.Ref.{now}
 use borrow.Author.Needs.{needs}
-use Rattle.runs.proofs.Sweep.{top-is, top-none}
-use Rattle.runs.proofs.top_hop.Statement.{statement}
-use Rattle.runs.proofs.top_hop.Tie as tie
+use Rattle.sweep.proofs.Sweep.{top-is, top-none}
+use Rattle.sweep.proofs.top_hop.Statement.{statement}
+use Rattle.sweep.proofs.top_hop.Tie as tie
 
 sub-result : tie.Need-sub-result
 sub-result c = search needs

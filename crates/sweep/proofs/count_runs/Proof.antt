@@ -1,15 +1,16 @@
--- `runs::count_runs` meets its contract. The loop stands at a turn of the answer, or at the limit, and has counted the turns before it.
+-- `sweep::count_runs` meets its contract. The loop stands at a turn of the answer, or at the limit, and has counted the turns before it.
 -- Assumes nothing.
 use mathlib.Core.Path.{_≡_, refl}
 use Prim.Native.Nat.{_-_, _≤_}
 use native.Mathlib.Omega.{arith}
 use denote.Ref.{now}
 use Rattle.ground.specs.Stretch.{counted, turnsFrom}
-use Rattle.runs.specs.Sweep.{allRows, answer}
-use Rattle.runs.proofs.Turning.{counted-at-most, counted-nothing}
-use Rattle.runs.proofs.Turning.{Sweeping, sweeping-start, sweeping-asks, sweeping-on, sweeping-counted}
-use Rattle.runs.proofs.count_runs.Statement.{statement}
-use Rattle.runs.proofs.count_runs.Tie as tie
+use Rattle.ground.specs.Stretch.Count.{counted-at-most}
+use Rattle.ground.specs.Stretch.Turns.{counted-to-first}
+use Rattle.sweep.specs.Sweep.{allRows, answer}
+use Rattle.sweep.proofs.Turning.{Sweeping, sweeping-start, sweeping-asks, sweeping-on, sweeping-counted}
+use Rattle.sweep.proofs.count_runs.Statement.{statement}
+use Rattle.sweep.proofs.count_runs.Tie as tie
 
 abbrev Inv-loop : tie.InvT-loop
 Inv-loop keys hops base start limit ends₀ labels₀ s₀ n₀ ends labels s n =
@@ -27,7 +28,7 @@ loop-holds : tie.Need-loop-holds Inv-loop μ-loop
 loop-holds c =
     let o = c .begin .ensures in
     let pre = c .before .before .before .before .before .pre in
-    (sweeping-start _ _ _ (pre .0) (pre .2) (o .1) (o .0), counted-nothing _ _ _ (o .0), pre .3)
+    (sweeping-start _ _ _ (pre .0) (pre .2) (o .1) (o .0), counted-to-first _ _ _ (o .0), pre .3)
 
 add-n : tie.Need-add-n Inv-loop μ-loop
 add-n c =
