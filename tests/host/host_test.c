@@ -1,4 +1,4 @@
-/* The C interface against what document 01 says, worked out by hand: import, plain lookup, run lookup on slices and on bytes. */
+/* The C interface against docs/RULES.md, worked out by hand: import, plain lookup, run lookup on slices and on bytes, build. */
 #include <string.h>
 
 #include "testing.h"
@@ -73,7 +73,7 @@ static void lookups(void)
     check("run bytes: a length that 6 doesn't divide is 11", whelk_run_lookup(bytes, 11, 0) == 11 * 65536);
 }
 
-/* The run tables of document 01's list A, of the empty list and of only 255.255.255.255/32. */
+/* The run tables of list A, of the empty list and of only 255.255.255.255/32. */
 static void builds(void)
 {
     const uint64_t keys[7] = {key(200, 24, 0, 0, 14),   key(200, 26, 0, 0, 15),   key(200, 27, 0, 0, 16),  key(200, 27, 64, 0, 18),

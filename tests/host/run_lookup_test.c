@@ -29,8 +29,7 @@ static uint32_t below(uint32_t n)
     return any() % n;
 }
 
-/* "For any n of at least 1, keep low = 0 and high = n; while they are more than 1 apart, probe the place (low + high) div 2, which becomes
-   low if its start is at most the address, else high. The answer is the hop at low and the number of probes." */
+/* halving, by rules 7.3 and 7.4: the hop at low, and the number of probes */
 static uint16_t halved(size_t n, uint32_t address, unsigned *probes)
 {
     size_t low = 0, high = n;
@@ -65,7 +64,7 @@ static void same(uint64_t got, uint64_t want, size_t n, uint32_t address)
                (unsigned long long)want);
 }
 
-/* "4 bytes of start and 2 of hop for each run, high byte first" */
+/* run bytes, by rule 7.7 */
 static uint8_t *bytes_of(size_t n)
 {
     uint8_t *bytes = room + n % 8;
@@ -131,7 +130,7 @@ static void group(const char *name)
     wrong = 0;
 }
 
-/* document 01's run table of its list A */
+/* the run table of list A */
 static void figure(void)
 {
     const uint8_t *bytes;
@@ -257,7 +256,7 @@ static void damaged(void)
 int main(void)
 {
     figure();
-    group("list A of document 01");
+    group("list A");
     lengths();
     group("every length up to 6,000 bytes");
     counts();

@@ -1,4 +1,4 @@
-/* What the C tests share: counting, and document 01's run table of its list A. */
+/* What the C tests share: counting, and the run table of list A (rule 14.4). */
 #ifndef TESTING_H
 #define TESTING_H
 
