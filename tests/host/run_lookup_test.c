@@ -1,7 +1,6 @@
-/* Lookup from C against two lookups of its own: halving in document 01's words, for every table, and a walk over the runs for tables
-   that are well-formed. Inputs come from a fixed seed. The last line is 'N passed, M failed', where N and M count the groups below. */
-#include <stdio.h>
-#include <stdlib.h>
+/* Run lookup against two lookups of its own: halving as a loop over low and high, for every table, and a walk over the runs for tables
+   that are well-formed. Inputs come from a fixed seed. What is counted is the groups below. */
+#include "testing.h"
 #include "whelkhollow.h"
 
 #define MOST 1000000u
@@ -14,7 +13,6 @@ static uint16_t hops[MOST];
 static uint8_t room[6 * MOST + 8];
 
 static unsigned long lookups, before, wrong;
-static int passed, failed;
 
 static uint64_t state = 20260715;
 
@@ -31,8 +29,7 @@ static uint32_t below(uint32_t n)
     return any() % n;
 }
 
-/* "For any n of at least 1, keep low = 0 and high = n; while they are more than 1 apart, probe the place (low + high) div 2, which becomes
-   low if its start is at most the address, else high. The answer is the hop at low and the number of probes." */
+/* halving, by rules 7.3 and 7.4: the hop at low, and the number of probes */
 static uint16_t halved(size_t n, uint32_t address, unsigned *probes)
 {
     size_t low = 0, high = n;
@@ -67,7 +64,7 @@ static void same(uint64_t got, uint64_t want, size_t n, uint32_t address)
                (unsigned long long)want);
 }
 
-/* "4 bytes of start and 2 of hop for each run, high byte first" */
+/* run bytes, by rule 7.7 */
 static uint8_t *bytes_of(size_t n)
 {
     uint8_t *bytes = room + n % 8;
@@ -127,26 +124,20 @@ static void well_formed(size_t n)
 
 static void group(const char *name)
 {
-    printf("%s: %s, %lu lookups\n", name, wrong == 0 ? "ok" : "WRONG", lookups - before);
-    if (wrong == 0)
-        passed++;
-    else
-        failed++;
+    printf("%s: %lu lookups\n", name, lookups - before);
+    check(name, wrong == 0);
     before = lookups;
     wrong = 0;
 }
 
-/* document 01's run table of its list A */
+/* the run table of list A */
 static void figure(void)
 {
-    static const uint32_t begins[10] = {0,          0xc8180000, 0xc81a0000, 0xc81b0000, 0xc81b4000,
-                                        0xc81b7000, 0xc81b8000, 0xc81b9000, 0xc81bf000, 0xc81c0000};
-    static const uint16_t answers[10] = {0, 1, 2, 3, 1, 2, 1, 3, 2, 0};
     const uint8_t *bytes;
     int i;
     for (i = 0; i < 10; i++) {
-        starts[i] = begins[i];
-        hops[i] = answers[i];
+        starts[i] = starts_of_a[i];
+        hops[i] = hops_of_a[i];
     }
     bytes = bytes_of(10);
     same(whelk_run_lookup(bytes, 60, 0xc81b70aa), 2, 10, 0xc81b70aa);
@@ -265,7 +256,7 @@ static void damaged(void)
 int main(void)
 {
     figure();
-    group("list A of document 01");
+    group("list A");
     lengths();
     group("every length up to 6,000 bytes");
     counts();
@@ -280,10 +271,7 @@ int main(void)
     group("starts in no order");
     damaged();
     group("equal neighbours, one start out of order, a first start above 0");
-    if (lookups < 1000000) {
-        printf("only %lu lookups\n", lookups);
-        failed++;
-    }
-    printf("%d passed, %d failed\n", passed, failed);
-    return failed == 0 ? 0 : 1;
+    if (lookups < 1000000)
+        check("a million lookups at least", 0);
+    return finish();
 }
