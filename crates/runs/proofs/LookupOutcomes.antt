@@ -2,15 +2,15 @@
 -- its probes; and the same over run bytes. `RunsHalved` is what code that halves run bytes keeps true. An outcome is one answer's.
 -- Assumes nothing.
 use mathlib.Core.Path.{_≡_, refl, sym, ap, _∙_}
-use mathlib.Core.Bool.{true}
+use mathlib.Core.Bool.{Bool, true, false, cond}
 use mathlib.Core.List.{List}
-use Prim.Native.Nat.{ℕ, _+_, _*_, _/_, _%_, _^_, _≤_, _<_, min}
+use Prim.Native.Nat.{ℕ, _+_, _*_, _/_, _%_, _^_, _≤_, _<_, min, zero-le}
 use native.Mathlib.Nat.{add-zero}
 use native.Mathlib.Omega.{arith}
 use lib.ListN.{length, getD}
 use lib.Dec.{eqb, ltb}
 use borrow.Author.Tests.{eq-eqb, ne-eqb, lt-ltb, le-ltb}
-use Rattle.ground.specs.Numbers.{firstFault, done, illFormed}
+use Rattle.ground.specs.Numbers.{firstFault, outcome, done, illFormed}
 use Rattle.ground.proofs.Truth.{or-right}
 use Rattle.ground.proofs.Numbers.{outcome-done, outcome-refused}
 use Rattle.halving.specs.Halving.{halving}
@@ -53,9 +53,13 @@ module _ (t : RunsLent) where
     found e h = sym (accepted e ∙ rw h)
 
     -- the number of probes is never above the least p with 2^p at least n
-    pub run-probes-at-most : (p : ℕ) → t .count ≤ 2 ^ p → firstFault (runChecks t) ≡ done → runLookup t a .probes ≤ p
-    unfolding inSlices
-    run-probes-at-most p h e = rw (accepted e) (probes-at-most _ (t .count) a p h)
+    pub run-probes-at-most : (p : ℕ) → t .count ≤ 2 ^ p → runLookup t a .probes ≤ p
+    unfolding runLookup inSlices outcome
+    run-probes-at-most p h = go (eqb (firstFault (runChecks t)) done) _ _ _ (probes-at-most _ (t .count) a p h)
+      where
+        go : (b : Bool) (number hop probes : ℕ) → probes ≤ p → (cond b (probed done hop probes) (probed number 0 0)) .probes ≤ p
+        go true number hop probes l = l
+        go false number hop probes l = zero-le
 
 module _ (bytes : List ℕ) where
   pub no-bytes : length bytes ≡ 0 → firstFault (bytesChecks bytes) ≡ illFormed
