@@ -6,7 +6,7 @@ use mathlib.Core.List.{List}
 use Prim.Native.Nat.{ℕ}
 use Rattle.ground.specs.Numbers.{checkOrder, past, inOrder, Check}
 use Rattle.routes.specs.Lookup.{lookupChecks, halfChecks}
-use Rattle.feed.specs.Import.{importChecks}
+use Rattle.feed.specs.Import.{ImportLent, importChecks}
 use Rattle.text.specs.Text.{writeChecks}
 use Rattle.runs.specs.Build.{buildChecks}
 use Rattle.runs.specs.Pair.{Pair, pairChecks}
@@ -23,7 +23,7 @@ InOrder checks = inOrder checkOrder checks ≡ true
 pub record Orders : Type 0 where
   pub lookup : (n : ℕ) (keys hops : List ℕ) → InOrder (lookupChecks n keys hops)
   pub half : (n : ℕ) (keys hops : List ℕ) → InOrder (halfChecks n keys hops)
-  pub imports : (feed report : List ℕ) → InOrder (importChecks feed report)
+  pub imports : (feed : List ℕ) (l : ImportLent) → InOrder (importChecks feed l)
   pub write : (n : ℕ) (keys hops buffer : List ℕ) → InOrder (writeChecks n keys hops buffer)
   pub build : (n : ℕ) (keys hops starts rhops : List ℕ) → InOrder (buildChecks n keys hops starts rhops)
   pub pair : (p : Pair) → InOrder (pairChecks p)
@@ -40,7 +40,7 @@ unfolding past inOrder lookupChecks halfChecks importChecks writeChecks buildChe
 orders = record {
   lookup = λ n keys hops. refl;
   half = λ n keys hops. refl;
-  imports = λ feed report. refl;
+  imports = λ feed l. refl;
   write = λ n keys hops buffer. refl;
   build = λ n keys hops starts rhops. refl;
   pair = λ p. refl;

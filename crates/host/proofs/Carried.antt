@@ -1,43 +1,17 @@
--- What the library's answers say is carried over to what C gets, case by case.
+-- What a lookup and a build answer is carried over to what C gets, case by case.
 -- Assumes nothing.
-use mathlib.Core.Path.{_≡_, sym, ap, _∙_, subst}
+use mathlib.Core.Path.{_≡_, ap, _∙_}
 use mathlib.Core.List.{List}
 use Prim.Native.Nat.{ℕ, _+_, _*_}
 use native.Mathlib.Omega.{arith}
 use Rattle.routes.specs.declared.Looked.{Looked}
 use Rattle.routes.specs.declared.Looked.the-variants.{Hop, IllFormed}
 use Rattle.routes.specs.Looked.{lookedNumber, lookedHop, LookedUp}
-use Rattle.feed.specs.declared.Counts.{Counts}
-use Rattle.feed.specs.declared.Imported.{Imported}
-use Rattle.feed.specs.declared.Imported.the-variants.{Done, ReportShort}
-use Rattle.feed.specs.Import.{importNumber, importCounts}
-use Rattle.feed.specs.Answers.{importedNumber, importedCounts, ImportedFrom}
 use Rattle.runs.specs.declared.Built.{Built}
 use Rattle.runs.specs.declared.Built.the-variants as B
 use Rattle.runs.specs.declared.Built.the-variants.{Runs}
 use Rattle.runs.specs.Answers.{builtNumber, builtCount, BuiltFrom}
-use Rattle.host.specs.Exports.{HostImported, HostBuilt, packedLookup}
-
-module _ {feed keys hops report keys′ hops′ report′ : List ℕ} {r : Imported} (t : ImportedFrom feed keys hops report r keys′ hops′ report′) where
-  pub import-carried : (c : Counts) → r ≡ Done c
-      → HostImported feed keys hops report (record { number = 0; rows = c .rows; taken = c .taken; shape = c .shape; range = c .range; hostbits = c .hostbits; repeat = c .repeat; noroom = c .noroom }) keys′ hops′ report′
-  import-carried c e = record {
-    number-is = subst (λ x. importedNumber x ≡ importNumber feed report) e (t .number);
-    counts = subst (λ x. importedCounts x ≡ importCounts feed keys hops report) e (t .counts);
-    keys-left = t .keys-left;
-    hops-left = t .hops-left;
-    report-left = t .report-left;
-  }
-
-  pub refusal-carried : r ≡ ReportShort
-      → HostImported feed keys hops report (record { number = 12; rows = 0; taken = 0; shape = 0; range = 0; hostbits = 0; repeat = 0; noroom = 0 }) keys′ hops′ report′
-  refusal-carried e = record {
-    number-is = subst (λ x. importedNumber x ≡ importNumber feed report) e (t .number);
-    counts = subst (λ x. importedCounts x ≡ importCounts feed keys hops report) e (t .counts);
-    keys-left = t .keys-left;
-    hops-left = t .hops-left;
-    report-left = t .report-left;
-  }
+use Rattle.host.specs.Exports.{HostBuilt, packedLookup}
 
 module _ {count a : ℕ} {keys hops : List ℕ} {r : Looked} (t : LookedUp count keys hops a r) where
   answer : 65536 * lookedNumber r + lookedHop r ≡ packedLookup count keys hops a
