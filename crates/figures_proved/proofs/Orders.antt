@@ -7,7 +7,7 @@ use Prim.Native.Nat.{ℕ}
 use Rattle.ground.specs.Numbers.{checkOrder, past, inOrder, Check}
 use Rattle.routes.specs.Row.{ListLent}
 use Rattle.routes.specs.Lookup.{lookupChecks, halfChecks}
-use Rattle.feed.specs.Import.{importChecks}
+use Rattle.feed.specs.Import.{ImportLent, importChecks}
 use Rattle.text.specs.Text.{writeChecks}
 use Rattle.runs.specs.Table.{RunsLent}
 use Rattle.runs.specs.Build.{SlotsLent, buildChecks}
@@ -25,7 +25,7 @@ InOrder checks = inOrder checkOrder checks ≡ true
 pub record Orders : Type 0 where
   pub lookup : (l : ListLent) → InOrder (lookupChecks l)
   pub half : (l : ListLent) → InOrder (halfChecks l)
-  pub imports : (feed report : List ℕ) → InOrder (importChecks feed report)
+  pub imports : (feed : List ℕ) (l : ImportLent) → InOrder (importChecks feed l)
   pub write : (l : ListLent) (buffer : List ℕ) → InOrder (writeChecks l buffer)
   pub build : (l : ListLent) (s : SlotsLent) → InOrder (buildChecks l s)
   pub pair : (p : Pair) → InOrder (pairChecks p)
@@ -42,7 +42,7 @@ unfolding past inOrder lookupChecks halfChecks importChecks writeChecks buildChe
 orders = record {
   lookup = λ l. refl;
   half = λ l. refl;
-  imports = λ feed report. refl;
+  imports = λ feed l. refl;
   write = λ l buffer. refl;
   build = λ l s. refl;
   pair = λ p. refl;

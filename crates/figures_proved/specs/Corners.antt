@@ -18,7 +18,8 @@ use Rattle.routes.specs.Place.{lower}
 use Rattle.feed.specs.Rows.{rowsIn, rowLength}
 use Rattle.feed.specs.Reading.{Reading, good, bad}
 use Rattle.feed.specs.declared.Counts.{Counts}
-use Rattle.feed.specs.Import.{countsOf, rowNumbers, imported, importNumber, importCounts, importReport, importKeys, importTally}
+use Rattle.feed.specs.RowNumber.{countsOf}
+use Rattle.feed.specs.Import.{rowNumbers, importedList, ImportLent, import, importTally}
 use Rattle.feed.specs.Pull.{pull}
 use Rattle.runs.specs.Table.{runsLent}
 use Rattle.runs.specs.Build.{slotsLent, build}
@@ -53,9 +54,13 @@ pulled none = []
 pulled (some (good k h)) = 0 ∷ k ∷ h ∷ []
 pulled (some (bad n)) = n ∷ 0 ∷ 0 ∷ []
 
--- the seven counts, in their order
-abbrev pub seven : Counts → List ℕ
-seven c = c .rows ∷ c .taken ∷ c .shape ∷ c .range ∷ c .hostbits ∷ c .repeat ∷ c .noroom ∷ []
+-- all counts: the rows, and then by row number
+abbrev pub counts : Counts → List ℕ
+counts c = c .rows ∷ c .of
+
+-- lent keys, hops and report
+abbrev pub lent : List ℕ → List ℕ → List ℕ → ImportLent
+lent keys hops report = record { keys = keys; hops = hops; report = report }
 
 -- 10.0.0.0/8 hop 1 with 10.64.0.0/10 hop 2 in it
 abbrev pub nested : List Row
@@ -128,14 +133,14 @@ corners =
     ∷ figure (rowNumbers 0 (bytes "10.0.0.0/8 7\n10.0.0.0/8 7\n")) (5 ∷ 5 ∷ [])
     ∷ figure (rowNumbers 1 (bytes "10.0.0.0/8 7\n11.0.0.0/8 7\n10.0.0.0/8 9\n11.0.0.0/8 7\n")) (0 ∷ 5 ∷ 4 ∷ 5 ∷ [])
     -- the list stands in key order, and slots past it stay
-    ∷ figure (keysOf (imported 9 (bytes "10.0.0.0/8 7\n9.0.0.0/8 5\n10.0.0.0/16 6\n")))
+    ∷ figure (keysOf (importedList 9 (bytes "10.0.0.0/8 7\n9.0.0.0/8 5\n10.0.0.0/16 6\n")))
     (prefix 9 0 0 0 8 ∷ prefix 10 0 0 0 8 ∷ prefix 10 0 0 0 16 ∷ [])
-    ∷ figure (hopsOf (imported 9 (bytes "10.0.0.0/8 7\n9.0.0.0/8 5\n10.0.0.0/16 6\n"))) (5 ∷ 7 ∷ 6 ∷ [])
-    ∷ figure (importKeys (bytes "0.0.0.0/0 1") (77 ∷ 78 ∷ []) (79 ∷ 80 ∷ []) (81 ∷ [])) (0 ∷ 78 ∷ [])
+    ∷ figure (hopsOf (importedList 9 (bytes "10.0.0.0/8 7\n9.0.0.0/8 5\n10.0.0.0/16 6\n"))) (5 ∷ 7 ∷ 6 ∷ [])
+    ∷ figure (import (bytes "0.0.0.0/0 1") (lent (77 ∷ 78 ∷ []) (79 ∷ 80 ∷ []) (81 ∷ [])) .keys) (0 ∷ 78 ∷ [])
     -- a report one byte short is 12, and stays
-    ∷ one (importNumber (bytes "\n\n") (9 ∷ [])) 12
-    ∷ figure (importReport (bytes "\n\n") [] [] (9 ∷ [])) (9 ∷ [])
-    ∷ figure (importReport (bytes "\n\n") [] [] (9 ∷ 9 ∷ 9 ∷ [])) (1 ∷ 1 ∷ 9 ∷ [])
+    ∷ one (import (bytes "\n\n") (lent [] [] (9 ∷ [])) .number) 12
+    ∷ figure (import (bytes "\n\n") (lent [] [] (9 ∷ [])) .report) (9 ∷ [])
+    ∷ figure (import (bytes "\n\n") (lent [] [] (9 ∷ 9 ∷ 9 ∷ [])) .report) (1 ∷ 1 ∷ 9 ∷ [])
     -- pulls: past an LF, to the end, at the end, past the end, and in mid-row, where what is left of the row is read
     ∷ one (pull (bytes "10.0.0.0/8 7\nx") 0 .next) 13
     ∷ one (pull (bytes "10.0.0.0/8 7\nx") 13 .next) 14
@@ -176,10 +181,10 @@ corners =
     ∷ figure (hopsOf (announced (prefix 128 0 0 0 1) 6 ends)) (9 ∷ 6 ∷ 7 ∷ [])
     ∷ figure (hopsOf (withdrawn (prefix 128 0 0 0 1) ends)) (9 ∷ 7 ∷ [])
     -- the counts of the program's five rows, with a report long enough and one short; a lent tally is set, and stays on 12
-    ∷ figure (seven (importCounts fiveRows (0 ∷ []) (0 ∷ []) (9 ∷ 9 ∷ 9 ∷ 9 ∷ 9 ∷ []))) (5 ∷ 1 ∷ 1 ∷ 1 ∷ 1 ∷ 1 ∷ 0 ∷ [])
-    ∷ figure (seven (importCounts fiveRows (0 ∷ []) (0 ∷ []) (9 ∷ []))) (0 ∷ 0 ∷ 0 ∷ 0 ∷ 0 ∷ 0 ∷ 0 ∷ [])
-    ∷ figure (seven (importTally fiveRows [] [] (9 ∷ 9 ∷ 9 ∷ 9 ∷ 9 ∷ []) (countsOf (1 ∷ 1 ∷ [])))) (5 ∷ 0 ∷ 1 ∷ 1 ∷ 1 ∷ 0 ∷ 2 ∷ [])
-    ∷ one (importTally fiveRows [] [] (9 ∷ []) (countsOf (7 ∷ [])) .rows) 1
+    ∷ figure (counts (import fiveRows (lent (0 ∷ []) (0 ∷ []) (9 ∷ 9 ∷ 9 ∷ 9 ∷ 9 ∷ [])) .counts)) (5 ∷ 1 ∷ 1 ∷ 1 ∷ 1 ∷ 1 ∷ 0 ∷ [])
+    ∷ figure (counts (import fiveRows (lent (0 ∷ []) (0 ∷ []) (9 ∷ [])) .counts)) (0 ∷ 0 ∷ 0 ∷ 0 ∷ 0 ∷ 0 ∷ 0 ∷ [])
+    ∷ figure (counts (importTally fiveRows (lent [] [] (9 ∷ 9 ∷ 9 ∷ 9 ∷ 9 ∷ [])) (countsOf (1 ∷ 1 ∷ [])))) (5 ∷ 0 ∷ 1 ∷ 1 ∷ 1 ∷ 0 ∷ 2 ∷ [])
+    ∷ one (importTally fiveRows (lent [] [] (9 ∷ [])) (countsOf (7 ∷ [])) .rows) 1
     -- the program's count lines for them
     ∷ figure (countLines (countsOf (rowNumbers 1024 fiveRows)))
     (bytes "rows 5\ntaken 1\nshape 1\nrange 1\nhostbits 1\nrepeat 1\nnoroom 0\n")

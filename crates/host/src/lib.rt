@@ -1,15 +1,16 @@
 // The C interface: the library's entries over memory that the host lends, each with one number or one plain struct back. It adds no rule of
 // its own; include/whelkhollow.h declares what is exported here.
-ghost use Rattle.host.specs.Exports.{HostImported, lookupForC, runLookupForC, builtForC, buildGaveC, buildForC};
+ghost use Rattle.host.specs.Exports.{hostImportGave, lookupForC, runLookupForC, builtForC, buildGaveC, buildForC};
 ghost use mathlib.Core.Path.{_≡_};
 ghost use mathlib.Core.List.{[]};
 ghost use Prim.Native.Nat.{_≤_};
+ghost use Rattle.feed.specs.Import.{import, endNumber};
 ghost use Rattle.routes.specs.Row.{listLent};
 ghost use Rattle.routes.specs.Lookup.{lookupGave, plainLookup};
 ghost use Rattle.runs.specs.Table.{runsLent};
 ghost use Rattle.runs.specs.Build.{slotsLent, buildGave, build};
 ghost use Rattle.runs.specs.Lookup.{runLookupGave, runLookup, bytesLookup};
-use feed::Imported;
+use feed::ImportEnd;
 use routes::Looked;
 use runs::Built;
 use runs::Probed;
@@ -27,6 +28,16 @@ pub struct WhelkCounts {
     pub noroom: usize,
 }
 
+// The number of an import's end.
+fn number_of(end: ImportEnd) -> usize
+    ensures { λ r. ⌜ r ≡ endNumber end ⌝ }
+{
+    match end {
+        ImportEnd::Done => ground::DONE as usize,
+        ImportEnd::ReportShort => ground::REPORT_SHORT as usize,
+    }
+}
+
 // Import a feed into lent keys, hops and report.
 #[no_mangle]
 pub extern "C" fn whelk_import(
@@ -35,30 +46,22 @@ pub extern "C" fn whelk_import(
     hops: &mut [u16],
     report: &mut [u8],
 ) -> WhelkCounts
-    ensures { λ r. ⌜ HostImported (now (feed .entry)) (now (keys .entry)) (now (hops .entry)) (now (report .entry)) r (now (keys .exit)) (now (hops .exit)) (now (report .exit)) ⌝ }
+    ensures { λ r. ⌜ hostImportGave r (now (keys .exit)) (now (hops .exit)) (now (report .exit))
+        ≡ import (now (feed .entry))
+        (record { keys = now (keys .entry); hops = now (hops .entry); report = now (report .entry) }) ⌝ }
 {
     let i = feed::import(feed, keys, hops, report);
-    match i {
-        Imported::Done(c) => WhelkCounts {
-            number: 0,
-            rows: c.rows,
-            taken: c.taken,
-            shape: c.shape,
-            range: c.range,
-            hostbits: c.hostbits,
-            repeat: c.repeat,
-            noroom: c.noroom,
-        },
-        Imported::ReportShort => WhelkCounts {
-            number: 12,
-            rows: 0,
-            taken: 0,
-            shape: 0,
-            range: 0,
-            hostbits: 0,
-            repeat: 0,
-            noroom: 0,
-        },
+    let end = i.end;
+    let c = i.counts;
+    WhelkCounts {
+        number: number_of(end),
+        rows: c.rows,
+        taken: c.of[feed::TAKEN as usize],
+        shape: c.of[feed::SHAPE as usize],
+        range: c.of[feed::RANGE as usize],
+        hostbits: c.of[feed::HOST_BITS as usize],
+        repeat: c.of[feed::REPEAT as usize],
+        noroom: c.of[feed::NO_ROOM_LEFT as usize],
     }
 }
 
