@@ -3,6 +3,9 @@ ghost use mathlib.Core.Path.{_≡_};
 ghost use Prim.Native.Nat.{_+_, _-_, _*_, _/_, _^_, _≤_};
 ghost use Rattle.cidr.specs.Prefix.{isPrefix, holds, network, endOf};
 
+// How many addresses there are: an address is a number below it.
+pub const ADDRESSES: u64 = 4294967296;
+
 // A number with its low `bits` bits set to 0.
 fn cleared(x: u64, bits: u64) -> u64
     requires { ⌜ bits ≤ 32 ⌝ }
@@ -27,7 +30,7 @@ pub fn is_prefix(key: u64) -> bool
     if 32 < len {
         return false;
     }
-    if 4294967295 < net {
+    if ADDRESSES <= net {
         return false;
     }
     cleared(net, bits_beyond(len)) == net

@@ -65,11 +65,13 @@ pub extern "C" fn whelk_import(
     }
 }
 
-// A lookup's number stands above its hop in the one number that C gets.
-pub const LOOKUP_ILL_FORMED: u32 = 65536 * ground::ILL_FORMED;
+// In the one number that C gets of a lookup, the number stands above the hop.
+pub const NUMBER_UNIT: u32 = 65536;
 
-// A build's number stands above its count.
-pub const BUILD_UNIT: u64 = 4294967296;
+pub const LOOKUP_ILL_FORMED: u32 = NUMBER_UNIT * ground::ILL_FORMED;
+
+// A build's number stands above its count, and a run lookup's probes above its number and hop.
+pub const HIGH_UNIT: u64 = 4294967296;
 
 // The one number that C gets from a lookup: 65,536 × number + hop.
 fn lookup_for_c(r: Looked) -> u32
@@ -87,7 +89,7 @@ fn run_lookup_for_c(r: Probed) -> u64
     ensures { λ n. ⌜ n ≡ runLookupForC (runLookupGave r) ⌝ }
 {
     match r {
-        Probed::Hop { hop, probes } => BUILD_UNIT * (probes as u64) + hop as u64,
+        Probed::Hop { hop, probes } => HIGH_UNIT * (probes as u64) + hop as u64,
         Probed::IllFormed => LOOKUP_ILL_FORMED as u64,
     }
 }
@@ -98,8 +100,8 @@ fn built_for_c(r: Built) -> u64
 {
     match r {
         Built::Runs(n) => n as u64,
-        Built::IllFormed => BUILD_UNIT * (ground::ILL_FORMED as u64),
-        Built::NoRoom => BUILD_UNIT * (ground::NO_ROOM as u64),
+        Built::IllFormed => HIGH_UNIT * (ground::ILL_FORMED as u64),
+        Built::NoRoom => HIGH_UNIT * (ground::NO_ROOM as u64),
     }
 }
 
