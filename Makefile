@@ -9,7 +9,7 @@ test:
 
 run:
 	@rt check whelk >&2
-	@bash tests/program/whelk <'$(FEED)'
+	@bash scripts/whelk <'$(FEED)'
 
 tools:
 	bash tools/build

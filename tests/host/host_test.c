@@ -1,20 +1,8 @@
-/* The C interface against what document 01 says, worked out by hand: import, plain lookup, run lookup on slices and on bytes. */
-#include <stdio.h>
+/* The C interface against docs/RULES.md, worked out by hand: import, plain lookup, run lookup on slices and on bytes, build. */
 #include <string.h>
 
+#include "testing.h"
 #include "whelkhollow.h"
-
-static int passed, failed;
-
-static void check(const char *what, int ok)
-{
-    if (ok)
-        passed++;
-    else {
-        failed++;
-        printf("failed: %s\n", what);
-    }
-}
 
 static uint64_t key(uint32_t a, uint32_t b, uint32_t c, uint32_t d, uint32_t len)
 {
@@ -85,23 +73,20 @@ static void lookups(void)
     check("run bytes: a length that 6 doesn't divide is 11", whelk_run_lookup(bytes, 11, 0) == 11 * 65536);
 }
 
-/* The run tables of document 01's list A, of the empty list and of only 255.255.255.255/32. */
+/* The run tables of list A, of the empty list and of only 255.255.255.255/32. */
 static void builds(void)
 {
     const uint64_t keys[7] = {key(200, 24, 0, 0, 14),   key(200, 26, 0, 0, 15),   key(200, 27, 0, 0, 16),  key(200, 27, 64, 0, 18),
                               key(200, 27, 112, 0, 20), key(200, 27, 128, 0, 20), key(200, 27, 240, 0, 20)};
     const uint16_t hops[7] = {1, 2, 3, 1, 2, 1, 2};
-    const uint32_t starts_a[10] = {0,          0xc8180000, 0xc81a0000, 0xc81b0000, 0xc81b4000,
-                                   0xc81b7000, 0xc81b8000, 0xc81b9000, 0xc81bf000, 0xc81c0000};
-    const uint16_t hops_a[10] = {0, 1, 2, 3, 1, 2, 1, 3, 2, 0};
     uint32_t starts[16];
     uint16_t runs[16];
     memset(starts, 0x55, sizeof starts);
     memset(runs, 0x55, sizeof runs);
     check("runs of A do not fit nine slots, and nothing is written",
           whelk_build(7, keys, 7, hops, 7, starts, 9, runs, 16) == (uint64_t)13 << 32 && starts[0] == 0x55555555 && runs[0] == 0x5555);
-    check("runs of A", whelk_build(7, keys, 7, hops, 7, starts, 16, runs, 10) == 10 && memcmp(starts, starts_a, sizeof starts_a) == 0 &&
-                           memcmp(runs, hops_a, sizeof hops_a) == 0 && starts[10] == 0x55555555 && runs[10] == 0x5555);
+    check("runs of A", whelk_build(7, keys, 7, hops, 7, starts, 16, runs, 10) == 10 && memcmp(starts, starts_of_a, sizeof starts_of_a) == 0 &&
+                           memcmp(runs, hops_of_a, sizeof hops_of_a) == 0 && starts[10] == 0x55555555 && runs[10] == 0x5555);
     check("the empty list has one run", whelk_build(0, keys, 7, hops, 7, starts, 16, runs, 16) == 1 && starts[0] == 0 && runs[0] == 0);
     const uint64_t last[1] = {key(255, 255, 255, 255, 32)};
     const uint16_t five_hop[1] = {5};
@@ -116,6 +101,5 @@ int main(void)
     many();
     lookups();
     builds();
-    printf("%d passed, %d failed\n", passed, failed);
-    return failed != 0;
+    return finish();
 }

@@ -2,7 +2,8 @@
 -- size, and of all prefixes of one length at most one holds an address.
 -- Assumes nothing.
 use mathlib.Core.Path.{_≡_, sym, ap, _∙_, subst}
-use mathlib.Core.Bool.{true, _&&_}
+use mathlib.Core.Logic.{⊎-elim}
+use mathlib.Core.Bool.{true, false, _&&_}
 use Prim.Native.Nat.{ℕ, _+_, _-_, _*_, _/_, _%_, _^_, _≤_, _<_}
 use native.Mathlib.Nat.{mod-lt, mod-le, mod-add-mod, mod-eq-of-lt, zero-add, add-sub-of-le, add-sub-cancel, lt-of-not-le}
 use native.Mathlib.Nat.{le-of-lt, mul-le-mul-right, suc-mul}
@@ -10,7 +11,7 @@ use native.Mathlib.Omega.{arith}
 use lib.Dec.{leb, ltb, eqb}
 use lib.Pow.{pow-pos, pow-add, mod-pow-add}
 use borrow.Author.Tests.{leb-true, ltb-true, eqb-true, le-leb, lt-ltb, eq-eqb}
-use Rattle.ground.proofs.Truth.{and-left, and-right, and-both}
+use Rattle.ground.proofs.Truth.{and-left, and-right, and-both, decided, never-both}
 use Rattle.cidr.specs.Prefix.{addresses, keyOf, network, lengthOf, size, endOf, hostBits, isPrefix, holds, covers}
 
 pub size-pos : (len : ℕ) → 0 < size len
@@ -94,6 +95,18 @@ within-holds key a p from to = eq-eqb _ _ (subst (λ x. x - hostBits (lengthOf k
     step =
         rw (host-bits-past (lengthOf key) (network key) (a - network key) (p .aligned) (omega arith))
         (add-sub-cancel (network key) (a - network key))
+
+-- before its network and from its end on it holds nothing; past its network, what isn't held is past its end
+pub not-before : (key a : ℕ) → a < network key → holds key a ≡ false
+not-before key a l = ⊎-elim (λ e. absurd (omega (arith, holds-from key a e))) (λ e. e) (decided (holds key a))
+
+pub not-after : (key a : ℕ) → endOf key ≤ a → holds key a ≡ false
+not-after key a l = ⊎-elim (λ e. absurd (omega (arith, holds-to key a e))) (λ e. e) (decided (holds key a))
+
+pub ended-of-not : (key a : ℕ) → Prefix key → network key ≤ a → holds key a ≡ false → endOf key ≤ a
+ended-of-not key a p from e =
+    let no-more : ¬ (a < endOf key) = λ lt. never-both (within-holds key a p from lt) e in
+    omega arith
 
 -- "a prefix stands before every longer one inside it"
 pub covers-before : (key other : ℕ) → covers key other ≡ true → lengthOf key < lengthOf other → key < other

@@ -3,6 +3,9 @@ ghost use mathlib.Core.Path.{_≡_};
 ghost use Prim.Native.Nat.{_+_, _-_, _*_, _/_, _^_, _≤_};
 ghost use Rattle.cidr.specs.Prefix.{isPrefix, holds, network, endOf};
 
+// How many addresses there are: an address is a number below it.
+pub const ADDRESSES: u64 = 4294967296;
+
 // A number with its low `bits` bits set to 0.
 fn cleared(x: u64, bits: u64) -> u64
     requires { ⌜ bits ≤ 32 ⌝ }
@@ -12,7 +15,7 @@ fn cleared(x: u64, bits: u64) -> u64
 }
 
 // How many bits of an address lie beyond a length; none beyond 32 and above.
-fn host_bits(len: u64) -> u64
+fn bits_beyond(len: u64) -> u64
     ensures { λ r. ⌜ r ≡ 32 - len ⌝ }
 {
     if len < 32 { 32 - len } else { 0 }
@@ -27,10 +30,10 @@ pub fn is_prefix(key: u64) -> bool
     if 32 < len {
         return false;
     }
-    if 4294967295 < net {
+    if ADDRESSES <= net {
         return false;
     }
-    cleared(net, host_bits(len)) == net
+    cleared(net, bits_beyond(len)) == net
 }
 
 // The prefix holds the address: the address, with its bits beyond the prefix's length set to 0, is the prefix's network.
@@ -38,7 +41,7 @@ pub fn holds(key: u64, a: u32) -> bool
     ensures { λ r. ⌜ r ≡ holds key a ⌝ }
 {
     let len = key % 64;
-    cleared(a as u64, host_bits(len)) == network(key)
+    cleared(a as u64, bits_beyond(len)) == network(key)
 }
 
 // The network of a key.
@@ -53,5 +56,5 @@ pub fn end_of(key: u64) -> u64
     ensures { λ r. ⌜ r ≡ endOf key ⌝ }
 {
     let one: u64 = 1;
-    network(key) + (one << host_bits(key % 64))
+    network(key) + (one << bits_beyond(key % 64))
 }

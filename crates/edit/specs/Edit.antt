@@ -7,7 +7,7 @@ use mathlib.Core.List.{List, [], _∷_, _++_}
 use Prim.Native.Nat.{ℕ}
 use lib.ListN.{length}
 use lib.Dec.{ltb, eqb}
-use Rattle.ground.specs.Numbers.{Check, check, firstFault, ifDone, ifAccepted, badEdit, notListed, noRoom}
+use Rattle.ground.specs.Numbers.{Check, check, outcome, done, badEdit, notListed, noRoom}
 use Rattle.ground.specs.Slots.{rewritten}
 use Rattle.cidr.specs.Prefix.{keyOf, isPrefix}
 use Rattle.routes.specs.Row.{Row, listRoom, keysOf, hopsOf}
@@ -23,7 +23,8 @@ badPrefix net len = ltb 32 len || not (isPrefix (keyOf net len))
 -- the edited list exceeds its room or its run table exceeds the runs' room
 unfoldable pub exceeds : List Row → Pair → Bool
 exceeds after p =
-    ltb (listRoom (p .keys) (p .hops)) (length after) || ltb (runRoom (p .starts) (p .rhops)) (length (runStarts after))
+    ltb (listRoom (p .list .keys) (p .list .hops)) (length after)
+    || ltb (runRoom (p .table .starts) (p .table .hops)) (length (runStarts after))
 
 -- What an edit returns and leaves: its number, the changed number, the two new counts, and the four lent slices.
 pub record Edited : Type 0 where
@@ -36,18 +37,30 @@ pub record Edited : Type 0 where
   pub starts : List ℕ
   pub rhops : List ℕ
 
--- "The list and runs equal a fresh build's in the counts and in every slot below them." A refusal returns 0 for each other number and
--- leaves the slices as they were.
-unfoldable pub edited : ℕ → List Row → Pair → Edited
-edited number after p = record {
-  number = number;
-  changed = ifDone number (changedBetween (listOf p) after);
-  count = ifDone number (length after);
-  runs = ifDone number (length (runStarts after));
-  keys = ifAccepted number (rewritten (keysOf after) (p .count) (p .keys)) (p .keys);
-  hops = ifAccepted number (rewritten (hopsOf after) (p .count) (p .hops)) (p .hops);
-  starts = ifAccepted number (rewritten (runStarts after) (p .runs) (p .starts)) (p .starts);
-  rhops = ifAccepted number (rewritten (runHops after) (p .runs) (p .rhops)) (p .rhops);
+-- A refusal returns its number and 0 for each other number, and leaves the slices as they were.
+abbrev pub editRefused : Pair → ℕ → Edited
+editRefused p n = record {
+  number = n;
+  changed = 0;
+  count = 0;
+  runs = 0;
+  keys = p .list .keys;
+  hops = p .list .hops;
+  starts = p .table .starts;
+  rhops = p .table .hops;
+}
+
+-- "The list and runs equal a fresh build's in the counts and in every slot below them."
+abbrev pub editDone : List Row → Pair → Edited
+editDone after p = record {
+  number = done;
+  changed = changedBetween (listOf p) after;
+  count = length after;
+  runs = length (runStarts after);
+  keys = rewritten (keysOf after) (p .list .count) (p .list .keys);
+  hops = rewritten (hopsOf after) (p .list .count) (p .list .hops);
+  starts = rewritten (runStarts after) (p .table .count) (p .table .starts);
+  rhops = rewritten (runHops after) (p .table .count) (p .table .hops);
 }
 
 -- announce
@@ -62,7 +75,7 @@ announceChecks net len hop p =
     ∷ []
 
 unfoldable pub announce : ℕ → ℕ → ℕ → Pair → Edited
-announce net len hop p = edited (firstFault (announceChecks net len hop p)) (afterAnnounce net len hop p) p
+announce net len hop p = outcome (announceChecks net len hop p) (editRefused p) (editDone (afterAnnounce net len hop p) p)
 
 -- withdraw
 unfoldable pub afterWithdraw : ℕ → ℕ → Pair → List Row
@@ -77,4 +90,4 @@ withdrawChecks net len p =
     ∷ []
 
 unfoldable pub withdraw : ℕ → ℕ → Pair → Edited
-withdraw net len p = edited (firstFault (withdrawChecks net len p)) (afterWithdraw net len p) p
+withdraw net len p = outcome (withdrawChecks net len p) (editRefused p) (editDone (afterWithdraw net len p) p)

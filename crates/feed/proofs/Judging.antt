@@ -11,8 +11,9 @@ use Rattle.ground.specs.Numbers.{firstFault}
 use Rattle.ground.proofs.Truth.{decided, never-both}
 use Rattle.cidr.specs.Prefix.{keyOf, lengthOf, hostBits, isPrefix}
 use Rattle.cidr.proofs.Prefix.{Prefix, prefix-parts, length-key, network-key}
-use Rattle.feed.specs.declared.Values.{Values}
-use Rattle.feed.specs.Reading.{good, bad, addressOf, outOfRange, hasHostBits, valueFault, judgedValues, rowRange, rowHostBits}
+use Rattle.feed.specs.declared.parse.Values.{Values}
+use Rattle.feed.specs.RowNumber.{rowRange, rowHostBits}
+use Rattle.feed.specs.Reading.{good, bad, addressOf, outOfRange, hasHostBits, valueFault, judgedValues}
 use Rattle.feed.proofs.Reading.{in-range, good-prefix}
 
 at-most-not-above : (x n : ℕ) → leb x n ≡ not (ltb n x)

@@ -1,10 +1,12 @@
 pub mod Reading
+pub mod Counting
 pub mod Importing
-mod Parse
+mod Fields
 mod Judging
 mod RowParse
 pub mod Splitting
 mod Taking
 mod Filling
+pub mod Outcome
 pub mod Settled
 pub mod Promise

@@ -12,7 +12,7 @@ use Rattle.ground.specs.Numbers.{firstFault}
 use Rattle.ground.proofs.Truth.{or-neither, not-false}
 use Rattle.cidr.specs.Prefix.{addresses, keyOf, network, lengthOf, hostBits, isPrefix}
 use Rattle.cidr.proofs.Prefix.{parts-prefix, network-key, length-key}
-use Rattle.feed.specs.declared.Values.{Values}
+use Rattle.feed.specs.declared.parse.Values.{Values}
 use Rattle.feed.specs.Reading.{Reading, good, bad, addressOf, outOfRange, hasHostBits, valueFault, judgedValues}
 use Rattle.feed.specs.Reading.{valuesOf, judged, readRow, fieldsOf, form}
 

@@ -14,14 +14,15 @@ use lib.Seq.{drop-cons, drop-drop, take-all, take-suc-set, getD-at}
 use lib.Dec.{leb, lit≤}
 use borrow.Author.Tests.{leb-true, le-leb, lt-leb}
 use Rattle.ground.proofs.Truth.{decided, never-both, cond-true, cond-false, and-right}
-use Rattle.feed.specs.declared.Values.{Values}
-use Rattle.feed.specs.declared.Digits.{Digits}
-use Rattle.feed.specs.declared.Field.{Field}
-use Rattle.feed.specs.declared.Field.the-variants.{Read, Unlike}
-use Rattle.feed.specs.Reading.{bad, rowShape, isDigit, digits, afterDigits, isNumber, begins, isEnd, before, Field as Part, field}
+use Rattle.feed.specs.declared.parse.Values.{Values}
+use Rattle.feed.specs.declared.parse.Digits.{Digits}
+use Rattle.feed.specs.declared.parse.NumberAt.{NumberAt}
+use Rattle.feed.specs.declared.parse.NumberAt.the-variants.{Read, NotOfForm}
+use Rattle.feed.specs.RowNumber.{rowShape}
+use Rattle.feed.specs.Reading.{bad, isDigit, digits, afterDigits, isNumber, begins, isEnd, before, Field, field}
 use Rattle.feed.specs.Reading.{form, fieldsOf, valueFrom, inPlaces, judgedValues, valuesOf, judged, readRow}
-use Rattle.feed.specs.Fields.{digitsFrom, fieldFrom, readFrom}
-use Rattle.feed.proofs.Parse.{after-is, digits-within, digits-next, digits-value}
+use Rattle.feed.specs.Inside.Fields.{digitsFrom, fieldFrom, readFrom}
+use Rattle.feed.proofs.Fields.{after-is, digits-within, digits-next, digits-value}
 
 -- five values and the hop, in their places
 abbrev filled : List ℕ → ℕ → Values
@@ -87,7 +88,7 @@ module _ (row : List ℕ) (at : ℕ) (h : at ≤ length row) (v : List ℕ) (d :
       value : valueFrom 0 ds ≡ d .value
       value = sym (digits-value row at 5 d e ∙ ap (valueFrom 0) (take-all 5 ds few))
 
-fields-step : (m k : ℕ) (fs : List Part) (bs : List ℕ)
+fields-step : (m k : ℕ) (fs : List Field) (bs : List ℕ)
     → fieldsOf (field m k ∷ fs) bs
     ≡ cond (isNumber m (digits bs) && begins k (afterDigits bs)) (before (digits bs) (fieldsOf fs (drop 1 (afterDigits bs)))) none
 unfolding fieldsOf
@@ -100,7 +101,7 @@ fields-step m k fs bs = go (isNumber m (digits bs) && begins k (afterDigits bs))
     go false = refl
 
 -- One number of the form with its mark: what is left of the form is read from the place after the mark.
-module _ (row : List ℕ) (at m k : ℕ) (h : at ≤ length row) (fs : List Part) where
+module _ (row : List ℕ) (at m k : ℕ) (h : at ≤ length row) (fs : List Field) where
   abbrev front : List ℕ
   front = digits (drop at row)
 
@@ -114,28 +115,28 @@ module _ (row : List ℕ) (at m k : ℕ) (h : at ≤ length row) (fs : List Part
   begins-some [] e = never-both e refl
   begins-some (b ∷ bs) e = omega arith
 
-  pub record Stepped (value next : ℕ) : Type 0 where
+  pub record FieldRead (value next : ℕ) : Type 0 where
     pub rest : fieldsOf (field m k ∷ fs) (drop at row) ≡ before (digits (drop at row)) (fieldsOf fs (drop next row))
     pub value-is : value ≡ valueFrom 0 (digits (drop at row))
     pub next-in : next ≤ length row
 
-  pub unlike-none : fieldFrom row at m k ≡ Unlike → fieldsOf (field m k ∷ fs) (drop at row) ≡ none
+  pub unlike-none : fieldFrom row at m k ≡ NotOfForm → fieldsOf (field m k ∷ fs) (drop at row) ≡ none
   unfolding fieldFrom
   unlike-none e = go (decided test)
     where
       go : (test ≡ true) ⊎ (test ≡ false) → fieldsOf (field m k ∷ fs) (drop at row) ≡ none
       go (inl t) =
-          let z : _≡_ {A = Field} (Read (valueFrom 0 front) (at + length front + 1)) Unlike = sym (cond-true _ _ t) ∙ e in
+          let z : _≡_ {A = NumberAt} (Read (valueFrom 0 front) (at + length front + 1)) NotOfForm = sym (cond-true _ _ t) ∙ e in
           absurd (let o : _≡_ {A = ℕ} 0 1 = cc in omega arith)
       go (inr t) = fields-step m k fs (drop at row) ∙ cond-false _ _ t
 
-  pub read-steps : (value next : ℕ) → fieldFrom row at m k ≡ Read value next → Stepped value next
+  pub read-steps : (value next : ℕ) → fieldFrom row at m k ≡ Read value next → FieldRead value next
   unfolding fieldFrom
   read-steps value next e = go (decided test)
     where
-      go : (test ≡ true) ⊎ (test ≡ false) → Stepped value next
+      go : (test ≡ true) ⊎ (test ≡ false) → FieldRead value next
       go (inl t) =
-          let z : _≡_ {A = Field} (Read (valueFrom 0 front) (at + length front + 1)) (Read value next) = sym (cond-true _ _ t) ∙ e in
+          let z : _≡_ {A = NumberAt} (Read (valueFrom 0 front) (at + length front + 1)) (Read value next) = sym (cond-true _ _ t) ∙ e in
           let v : valueFrom 0 front ≡ value = cc in
           let n : at + length front + 1 ≡ next = cc in
           let there : drop 1 behind ≡ drop next row = rw (after-is (drop at row), drop-drop (length front), drop-drop 1, n) in
@@ -146,7 +147,7 @@ module _ (row : List ℕ) (at m k : ℕ) (h : at ≤ length row) (fs : List Part
             next-in = omega (arith, ap length (after-is (drop at row)), length-drop (length front) (drop at row), length-drop at row);
           }
       go (inr t) =
-          let z : _≡_ {A = Field} Unlike (Read value next) = sym (cond-false _ _ t) ∙ e in
+          let z : _≡_ {A = NumberAt} NotOfForm (Read value next) = sym (cond-false _ _ t) ∙ e in
           absurd (let o : _≡_ {A = ℕ} 0 1 = cc in omega arith)
 
 -- Where the loop over the five numbers stands: the row says what the values so far and the rest of the row say.
@@ -194,7 +195,7 @@ module _ {row v : List ℕ} {at i : ℕ} (s : Rowing row v at i) (l : i < 5) whe
   abbrev mark : ℕ
   mark = getD marks i 0
 
-  pub rowing-unlike : fieldFrom row at (getD mosts i 0) (getD marks i 0) ≡ Unlike → bad rowShape ≡ readRow row
+  pub rowing-unlike : fieldFrom row at (getD mosts i 0) (getD marks i 0) ≡ NotOfForm → bad rowShape ≡ readRow row
   unfolding readFrom
   rowing-unlike e = sym (s .goes-on ∙ rw (form-at i l, unlike-none row at most mark (s .within) (drop (i + 1) form) e))
 

@@ -6,30 +6,39 @@ use mathlib.Core.List.{List}
 use Prim.Native.Nat.{ℕ}
 use native.Mathlib.Omega.{arith}
 use lib.Dec.{eqb}
+use Rattle.feed.specs.declared.Counts.{Counts}
 use Rattle.feed.specs.declared.Imported.{Imported}
-use Rattle.feed.specs.declared.Imported.the-variants.{Done, ReportShort}
+use Rattle.feed.specs.declared.ImportEnd.{ImportEnd}
+use Rattle.feed.specs.declared.ImportEnd.the-variants.{Done, ReportShort}
 use Rattle.feed.specs.declared.RowRead.{RowRead}
 use Rattle.feed.specs.declared.RowRead.the-variants.{Good, Shape, Range, HostBits}
-use Rattle.feed.specs.Reading.{Reading, good, bad, readRow, rowShape, rowRange}
-use Rattle.feed.specs.Answers.{readingOf, importedNumber, importedCounts, ImportedFrom}
+use Rattle.feed.specs.RowNumber.{rowShape, rowRange}
+use Rattle.feed.specs.Reading.{Reading, good, bad, readRow, readingOf}
+use Rattle.feed.specs.Import.{ImportLent, import, endNumber, importGave}
 
--- an import's answer is its number and its counts
-same-answer : (r r′ : Imported) → importedNumber r ≡ importedNumber r′ → importedCounts r ≡ importedCounts r′ → r ≡ r′
-same-answer (Done c) (Done c′) n e = ap Done e
-same-answer (Done c) ReportShort n e = absurd (omega arith)
-same-answer ReportShort (Done c′) n e = absurd (omega arith)
-same-answer ReportShort ReportShort n e = refl
+same-end : (e e′ : ImportEnd) → endNumber e ≡ endNumber e′ → e ≡ e′
+same-end Done Done n = refl
+same-end Done ReportShort n = absurd (omega arith)
+same-end ReportShort Done n = absurd (omega arith)
+same-end ReportShort ReportShort n = refl
 
--- an import's answer and all three lent slices
-pub import-settled : (feed keys hops report : List ℕ) (r r′ : Imported) (keys′ keys″ hops′ hops″ report′ report″ : List ℕ)
-    → ImportedFrom feed keys hops report r keys′ hops′ report′ → ImportedFrom feed keys hops report r′ keys″ hops″ report″
-    → (r ≡ r′) × (keys′ ≡ keys″) × (hops′ ≡ hops″) × (report′ ≡ report″)
-import-settled feed keys hops report r r′ keys′ keys″ hops′ hops″ report′ report″ p q = (
-  same-answer r r′ (p .number ∙ sym (q .number)) (p .counts ∙ sym (q .counts)),
-  p .keys-left ∙ sym (q .keys-left),
-  p .hops-left ∙ sym (q .hops-left),
-  p .report-left ∙ sym (q .report-left),
-)
+abbrev given : ImportEnd → Counts → Imported
+given x c = record { end = x; counts = c }
+
+-- an import's answer and the three slices at exit can be told from what they say
+module _ {r r′ : Imported} {k k′ h h′ p p′ : List ℕ} where
+  pub gave-one : importGave r k h p ≡ importGave r′ k′ h′ p′ → (r ≡ r′) × (k ≡ k′) × (h ≡ h′) × (p ≡ p′)
+  gave-one e = (
+    ap (λ x. given x (r .counts)) (same-end (r .end) (r′ .end) (ap (λ o. o .number) e)) ∙ ap (given (r′ .end)) (ap (λ o. o .counts) e),
+    ap (λ o. o .keys) e,
+    ap (λ o. o .hops) e,
+    ap (λ o. o .report) e,
+  )
+
+  -- an import's answer and all three lent slices
+  pub import-settled : (feed : List ℕ) (l : ImportLent)
+      → importGave r k h p ≡ import feed l → importGave r′ k′ h′ p′ ≡ import feed l → (r ≡ r′) × (k ≡ k′) × (h ≡ h′) × (p ≡ p′)
+  import-settled feed l e e′ = gave-one (e ∙ sym e′)
 
 -- the answer that a reading came from
 answerOf : Reading → RowRead

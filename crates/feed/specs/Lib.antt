@@ -1,6 +1,6 @@
 pub mod Rows
+pub mod RowNumber
 pub mod Reading
 pub mod Import
 pub mod Pull
-pub mod Answers
-pub mod Fields
+pub mod Inside

@@ -9,27 +9,11 @@ use lib.ListN.{length, getD, drop}
 use lib.Dec.{leb, ltb, eqb}
 use Rattle.cidr.specs.Prefix.{dotted, keyOf, hostBits}
 use Rattle.ground.specs.Numbers.{check, firstFault}
-use Rattle.feed.specs.declared.Values.{Values}
+use Rattle.feed.specs.declared.parse.Values.{Values}
+use Rattle.feed.specs.declared.RowRead.{RowRead}
+use Rattle.feed.specs.declared.RowRead.the-variants.{Good, Shape, Range, HostBits}
 use Rattle.feed.specs.Rows.{dot, slash, space, digit0, digit9}
-
--- the row numbers
-abbrev pub rowTaken : ℕ
-rowTaken = 0
-
-abbrev pub rowShape : ℕ
-rowShape = 1
-
-abbrev pub rowRange : ℕ
-rowRange = 2
-
-abbrev pub rowHostBits : ℕ
-rowHostBits = 3
-
-abbrev pub rowRepeat : ℕ
-rowRepeat = 4
-
-abbrev pub rowNoRoom : ℕ
-rowNoRoom = 5
+use Rattle.feed.specs.RowNumber.{rowTaken, rowShape, rowRange, rowHostBits}
 
 -- a digit is a byte from '0' to '9'
 abbrev pub isDigit : ℕ → Bool
@@ -126,7 +110,7 @@ unfoldable pub valueFault : Values → ℕ
 valueFault v = firstFault (check (outOfRange v) rowRange ∷ check (hasHostBits v) rowHostBits ∷ [])
 
 unfoldable pub judgedValues : Values → Reading
-judgedValues v = cond (eqb (valueFault v) 0) (good (keyOf (addressOf v) (v .len)) (v .hop)) (bad (valueFault v))
+judgedValues v = cond (eqb (valueFault v) rowTaken) (good (keyOf (addressOf v) (v .len)) (v .hop)) (bad (valueFault v))
 
 unfoldable pub judged : Option (List (List ℕ)) → Reading
 judged none = bad rowShape
@@ -135,3 +119,10 @@ judged (some ns) = judgedValues (valuesOf ns)
 -- the reading of a row: the whole row's shape first, then its values
 unfoldable pub readRow : List ℕ → Reading
 readRow bytes = judged (fieldsOf form bytes)
+
+-- what the code's answer says
+abbrev pub readingOf : RowRead → Reading
+readingOf (Good k h) = good k h
+readingOf Shape = bad rowShape
+readingOf Range = bad rowRange
+readingOf HostBits = bad rowHostBits

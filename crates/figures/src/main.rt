@@ -1,6 +1,6 @@
 // Document 01's figures that run in a program, and corners of the import. tests/figures/expected.py makes what it has to write.
 use feed::Counts;
-use feed::Imported;
+use feed::ImportEnd;
 use routes::Looked;
 use runs::Built;
 ghost use Prim.Native.Nat.{_≤_};
@@ -39,17 +39,17 @@ fn item(n: u64) {
     print::number(n);
 }
 
-// The number that an import returns, and the seven counts.
+// The number that an import returns, and the counts.
 fn counts(number: u64, c: Counts) {
     print::line(b"number", number);
     print::text(b"counts");
     item(c.rows as u64);
-    item(c.taken as u64);
-    item(c.shape as u64);
-    item(c.range as u64);
-    item(c.hostbits as u64);
-    item(c.repeat as u64);
-    item(c.noroom as u64);
+    item(c.of[feed::TAKEN as usize] as u64);
+    item(c.of[feed::SHAPE as usize] as u64);
+    item(c.of[feed::RANGE as usize] as u64);
+    item(c.of[feed::HOST_BITS as usize] as u64);
+    item(c.of[feed::REPEAT as usize] as u64);
+    item(c.of[feed::NO_ROOM_LEFT as usize] as u64);
     print::text(b"\n");
 }
 
@@ -89,20 +89,12 @@ fn show_hops(hops: &[u16]) {
 
 // An import, and what it leaves in all that it was lent.
 fn imported(feed: &[u8], keys: &mut [u64], hops: &mut [u16], report: &mut [u8]) {
-    match feed::import(feed, keys, hops, report) {
-        Imported::Done(c) => counts(0, c),
-        Imported::ReportShort => {
-            let none = Counts {
-                rows: 0,
-                taken: 0,
-                shape: 0,
-                range: 0,
-                hostbits: 0,
-                repeat: 0,
-                noroom: 0,
-            };
-            counts(12, none);
-        }
+    let i = feed::import(feed, keys, hops, report);
+    let end = i.end;
+    let c = i.counts;
+    match end {
+        ImportEnd::Done => counts(0, c),
+        ImportEnd::ReportShort => counts(12, c),
     }
     show_report(report);
     show_keys(keys);
@@ -322,10 +314,13 @@ fn build(name: &[u8], feed: &[u8], room: usize)
     let mut keys = [0u64; 8];
     let mut hops = [0u16; 8];
     let mut report = [0u8; 8];
-    let Imported::Done(c) = feed::import(feed, &mut keys, &mut hops, &mut report) else {
+    let i = feed::import(feed, &mut keys, &mut hops, &mut report);
+    let end = i.end;
+    let ImportEnd::Done = end else {
         return;
     };
-    let count = c.taken;
+    let c = i.counts;
+    let count = c.of[feed::TAKEN as usize];
     let mut starts = [151587081u32; 16];
     let mut rhops = [9u16; 16];
     built(count, &keys, &hops, &mut starts[..room], &mut rhops[..room]);

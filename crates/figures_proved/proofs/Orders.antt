@@ -5,50 +5,52 @@ use mathlib.Core.Bool.{true}
 use mathlib.Core.List.{List}
 use Prim.Native.Nat.{ℕ}
 use Rattle.ground.specs.Numbers.{checkOrder, past, inOrder, Check}
+use Rattle.routes.specs.Row.{ListLent}
 use Rattle.routes.specs.Lookup.{lookupChecks, halfChecks}
-use Rattle.feed.specs.Import.{importChecks}
+use Rattle.feed.specs.Import.{ImportLent, importChecks}
 use Rattle.text.specs.Text.{writeChecks}
-use Rattle.runs.specs.Build.{buildChecks}
+use Rattle.runs.specs.Table.{RunsLent}
+use Rattle.runs.specs.Build.{SlotsLent, buildChecks}
 use Rattle.runs.specs.Pair.{Pair, pairChecks}
-use Rattle.runs.specs.Lookup.{runChecks, hostChecks}
-use Rattle.segment.specs.Pack.{Lent, packChecks}
-use Rattle.segment.specs.Lookup.{packedChecks}
+use Rattle.runs.specs.Lookup.{runChecks, bytesChecks}
+use Rattle.segment.specs.Pack.{PackLent, packChecks}
+use Rattle.segment.specs.Lookup.{SegmentLent, packedChecks}
 use Rattle.edit.specs.Edit.{announceChecks, withdrawChecks}
-use Rattle.split.specs.Split.{splitChecks}
+use Rattle.split.specs.Split.{SplitLent, splitChecks}
 
 abbrev pub InOrder : List Check → Type 0
 InOrder checks = inOrder checkOrder checks ≡ true
 
 -- all calls, over everything that they can be handed
 pub record Orders : Type 0 where
-  pub lookup : (n : ℕ) (keys hops : List ℕ) → InOrder (lookupChecks n keys hops)
-  pub half : (n : ℕ) (keys hops : List ℕ) → InOrder (halfChecks n keys hops)
-  pub imports : (feed report : List ℕ) → InOrder (importChecks feed report)
-  pub write : (n : ℕ) (keys hops buffer : List ℕ) → InOrder (writeChecks n keys hops buffer)
-  pub build : (n : ℕ) (keys hops starts rhops : List ℕ) → InOrder (buildChecks n keys hops starts rhops)
+  pub lookup : (l : ListLent) → InOrder (lookupChecks l)
+  pub half : (l : ListLent) → InOrder (halfChecks l)
+  pub imports : (feed : List ℕ) (l : ImportLent) → InOrder (importChecks feed l)
+  pub write : (l : ListLent) (buffer : List ℕ) → InOrder (writeChecks l buffer)
+  pub build : (l : ListLent) (s : SlotsLent) → InOrder (buildChecks l s)
   pub pair : (p : Pair) → InOrder (pairChecks p)
-  pub run : (n : ℕ) (starts hops : List ℕ) → InOrder (runChecks n starts hops)
-  pub host : (bytes : List ℕ) → InOrder (hostChecks bytes)
-  pub pack : (q : ℕ) (p : Pair) (l : Lent) → InOrder (packChecks q p l)
-  pub packed : (w : ℕ) (words bases hops : List ℕ) (a : ℕ) → InOrder (packedChecks w words bases hops a)
+  pub run : (t : RunsLent) → InOrder (runChecks t)
+  pub inBytes : (bytes : List ℕ) → InOrder (bytesChecks bytes)
+  pub pack : (q : ℕ) (p : Pair) (l : PackLent) → InOrder (packChecks q p l)
+  pub packed : (s : SegmentLent) (a : ℕ) → InOrder (packedChecks s a)
   pub announce : (net len hop : ℕ) (p : Pair) → InOrder (announceChecks net len hop p)
   pub withdraw : (net len : ℕ) (p : Pair) → InOrder (withdrawChecks net len p)
-  pub split : (k n : ℕ) (keys hops keys′ hops′ : List ℕ) → InOrder (splitChecks k n keys hops keys′ hops′)
+  pub split : (k : ℕ) (l : ListLent) (out : SplitLent) → InOrder (splitChecks k l out)
 
 pub orders : Orders
-unfolding past inOrder lookupChecks halfChecks importChecks writeChecks buildChecks pairChecks runChecks hostChecks packChecks packedChecks announceChecks withdrawChecks splitChecks
+unfolding past inOrder lookupChecks halfChecks importChecks writeChecks buildChecks pairChecks runChecks bytesChecks packChecks packedChecks announceChecks withdrawChecks splitChecks
 orders = record {
-  lookup = λ n keys hops. refl;
-  half = λ n keys hops. refl;
-  imports = λ feed report. refl;
-  write = λ n keys hops buffer. refl;
-  build = λ n keys hops starts rhops. refl;
+  lookup = λ l. refl;
+  half = λ l. refl;
+  imports = λ feed l. refl;
+  write = λ l buffer. refl;
+  build = λ l s. refl;
   pair = λ p. refl;
-  run = λ n starts hops. refl;
-  host = λ bytes. refl;
+  run = λ t. refl;
+  inBytes = λ bytes. refl;
   pack = λ q p l. refl;
-  packed = λ w words bases hops a. refl;
+  packed = λ s a. refl;
   announce = λ net len hop p. refl;
   withdraw = λ net len p. refl;
-  split = λ k n keys hops keys′ hops′. refl;
+  split = λ k l out. refl;
 }

@@ -1,4 +1,7 @@
 pub mod Truth
-pub mod Halving
+pub mod Map
+pub mod Ascends
+pub mod Falls
 pub mod Column
+pub mod Slots
 pub mod Numbers

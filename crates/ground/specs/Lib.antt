@@ -2,5 +2,3 @@ pub mod Numbers
 pub mod Slots
 pub mod Column
 pub mod Stretch
-pub mod Halving
-pub mod Narrowed

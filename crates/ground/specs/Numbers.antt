@@ -77,11 +77,3 @@ unfoldable pub inOrder : List ℕ → List Check → Bool
 inOrder [] [] = true
 inOrder [] (c ∷ cs) = false
 inOrder (n ∷ ns) cs = inOrder ns (past n cs)
-
--- what a call with this number leaves or returns: one thing where it was accepted, another where it was refused
-abbrev pub ifAccepted {ℓ} : {A : Type ℓ} → ℕ → A → A → A
-ifAccepted number accepted refused = cond (eqb number done) accepted refused
-
--- "A refusal returns 0 for each other number"
-unfoldable pub ifDone : ℕ → ℕ → ℕ
-ifDone number value = ifAccepted number value 0

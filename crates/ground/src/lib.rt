@@ -1,5 +1,8 @@
-// What every other crate stands on and that knows nothing of routes: the numbers that a call returns, stretches of
-// numbers, halving, and what a lent slice holds after a call.
+// What every other crate stands on and that knows nothing of routes: the numbers that a call returns, stretches of numbers, what a lent
+// slice holds after a call, and the moves of one column. It is for this library's crates and not for callers.
+// The moves of a column stand once for each width.
+pub mod column16;
+pub mod column64;
 
 // The numbers that a call returns; `specs/Numbers` has them as definitions.
 // 0: done.

@@ -1,2 +1,3 @@
 mod Carried
+mod ImportCarried
 pub mod Settled

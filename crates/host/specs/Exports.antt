@@ -1,40 +1,46 @@
--- What the exports return to C: document 01's numbers, packed into one by rules of our own but for run bytes.
+-- What the exports return to C: an import's struct, and the numbers of the other calls in one.
 -- Assumes nothing.
-use mathlib.Core.Path.{_≡_}
-use mathlib.Core.List.{List}
+use mathlib.Core.List.{List, [], _∷_}
 use Prim.Native.Nat.{ℕ, _+_, _*_}
-use Rattle.routes.specs.Lookup.{lookupNumber, lookupHop}
+use Rattle.routes.specs.Lookup.{LookupOutcome}
 use Rattle.feed.specs.declared.Counts.{Counts}
-use Rattle.feed.specs.Import.{importNumber, importCounts, importKeys, importHops, importReport}
-use Rattle.runs.specs.Build.{buildNumber, buildCount, buildStarts, buildHops}
+use Rattle.feed.specs.Import.{ImportOutcome}
+use Rattle.runs.specs.Build.{BuildOutcome}
+use Rattle.runs.specs.Lookup.{RunLookupOutcome}
 use Rattle.host.specs.declared.WhelkCounts.{WhelkCounts}
 
--- the seven counts of what an import returns
+-- the counts that C gets: all rows, and one for each row number, in the order of the numbers
 abbrev pub countsIn : WhelkCounts → Counts
 countsIn w = record {
   rows = w .rows;
-  taken = w .taken;
-  shape = w .shape;
-  range = w .range;
-  hostbits = w .hostbits;
-  repeat = w .repeat;
-  noroom = w .noroom;
+  of = w .taken ∷ w .shape ∷ w .range ∷ w .hostbits ∷ w .repeat ∷ w .noroom ∷ [];
 }
 
--- an import's number and counts, and the three lent slices at exit, are what the definitions say of what was lent
-pub record HostImported (feed keys hops report : List ℕ) (r : WhelkCounts) (keys′ hops′ report′ : List ℕ) : Type 0 where
-  pub number-is : r .number ≡ importNumber feed report
-  pub counts : countsIn r ≡ importCounts feed keys hops report
-  pub keys-left : keys′ ≡ importKeys feed keys hops report
-  pub hops-left : hops′ ≡ importHops feed keys hops report
-  pub report-left : report′ ≡ importReport feed keys hops report
+-- what C gets from an import and the three slices at exit, as an import's outcome
+abbrev pub hostImportGave : WhelkCounts → List ℕ → List ℕ → List ℕ → ImportOutcome
+hostImportGave w keys hops report =
+    record { number = w .number; counts = countsIn w; keys = keys; hops = hops; report = report }
 
--- 65,536 × number + hop, as document 01 has it for run bytes
-unfoldable pub packedLookup : ℕ → List ℕ → List ℕ → ℕ → ℕ
-packedLookup count keys hops a = 65536 * lookupNumber count keys hops + lookupHop count keys hops a
+-- the one number that C gets from a lookup: 65,536 × number + hop
+unfoldable pub lookupForC : LookupOutcome → ℕ
+lookupForC o = 65536 * o .number + o .hop
 
--- a build's number and count in one, and the two lent slices at exit, are what the definitions say of what was lent
-pub record HostBuilt (count : ℕ) (keys hops starts rhops : List ℕ) (r : ℕ) (starts′ rhops′ : List ℕ) : Type 0 where
-  pub answer : r ≡ 4294967296 * buildNumber count keys hops starts rhops + buildCount count keys hops starts rhops
-  pub starts-left : starts′ ≡ buildStarts count keys hops starts rhops
-  pub hops-left : rhops′ ≡ buildHops count keys hops starts rhops
+-- from a run lookup over slices, with the probes above these
+unfoldable pub runLookupForC : RunLookupOutcome → ℕ
+runLookupForC o = 4294967296 * o .probes + (65536 * o .number + o .hop)
+
+-- from a build: 4,294,967,296 × number + count of runs
+unfoldable pub builtForC : BuildOutcome → ℕ
+builtForC o = 4294967296 * o .number + o .runs
+
+-- what a build returns to C and leaves: the one number, and the two slices
+pub record BuildForC : Type 0 where
+  pub answer : ℕ
+  pub starts : List ℕ
+  pub hops : List ℕ
+
+abbrev pub buildGaveC : ℕ → List ℕ → List ℕ → BuildForC
+buildGaveC answer starts hops = record { answer = answer; starts = starts; hops = hops }
+
+unfoldable pub buildForC : BuildOutcome → BuildForC
+buildForC o = buildGaveC (builtForC o) (o .starts) (o .hops)

@@ -1,12 +1,19 @@
-// The C interface: the library's entries over memory that the host lends, each with one number or one plain struct back. It adds no rule of its
-// own; include/whelkhollow.h declares what is exported here.
-ghost use Rattle.host.specs.Exports.{HostImported, HostBuilt, packedLookup};
+// The C interface: the library's entries over memory that the host lends, each with one number or one plain struct back. It adds no rule of
+// its own; include/whelkhollow.h declares what is exported here.
+ghost use Rattle.host.specs.Exports.{hostImportGave, lookupForC, runLookupForC, builtForC, buildGaveC, buildForC};
 ghost use mathlib.Core.Path.{_≡_};
-ghost use Prim.Native.Nat.{_+_, _*_};
-ghost use Rattle.runs.specs.Lookup.{slicesAnswer, hostAnswer};
-use feed::Imported;
+ghost use mathlib.Core.List.{[]};
+ghost use Prim.Native.Nat.{_≤_};
+ghost use Rattle.feed.specs.Import.{import, endNumber};
+ghost use Rattle.routes.specs.Row.{listLent};
+ghost use Rattle.routes.specs.Lookup.{lookupGave, plainLookup};
+ghost use Rattle.runs.specs.Table.{runsLent};
+ghost use Rattle.runs.specs.Build.{slotsLent, buildGave, build};
+ghost use Rattle.runs.specs.Lookup.{runLookupGave, runLookup, bytesLookup};
+use feed::ImportEnd;
 use routes::Looked;
 use runs::Built;
+use runs::Probed;
 
 // What an import returns to C: its number, and the seven counts.
 #[repr(C)]
@@ -21,6 +28,16 @@ pub struct WhelkCounts {
     pub noroom: usize,
 }
 
+// The number of an import's end.
+fn number_of(end: ImportEnd) -> usize
+    ensures { λ r. ⌜ r ≡ endNumber end ⌝ }
+{
+    match end {
+        ImportEnd::Done => ground::DONE as usize,
+        ImportEnd::ReportShort => ground::REPORT_SHORT as usize,
+    }
+}
+
 // Import a feed into lent keys, hops and report.
 #[no_mangle]
 pub extern "C" fn whelk_import(
@@ -29,62 +46,90 @@ pub extern "C" fn whelk_import(
     hops: &mut [u16],
     report: &mut [u8],
 ) -> WhelkCounts
-    ensures { λ r. ⌜ HostImported (now (feed .entry)) (now (keys .entry)) (now (hops .entry)) (now (report .entry)) r (now (keys .exit)) (now (hops .exit)) (now (report .exit)) ⌝ }
+    ensures { λ r. ⌜ hostImportGave r (now (keys .exit)) (now (hops .exit)) (now (report .exit))
+        ≡ import (now (feed .entry))
+        (record { keys = now (keys .entry); hops = now (hops .entry); report = now (report .entry) }) ⌝ }
 {
     let i = feed::import(feed, keys, hops, report);
-    match i {
-        Imported::Done(c) => WhelkCounts {
-            number: 0,
-            rows: c.rows,
-            taken: c.taken,
-            shape: c.shape,
-            range: c.range,
-            hostbits: c.hostbits,
-            repeat: c.repeat,
-            noroom: c.noroom,
-        },
-        Imported::ReportShort => WhelkCounts {
-            number: 12,
-            rows: 0,
-            taken: 0,
-            shape: 0,
-            range: 0,
-            hostbits: 0,
-            repeat: 0,
-            noroom: 0,
-        },
+    let end = i.end;
+    let c = i.counts;
+    WhelkCounts {
+        number: number_of(end),
+        rows: c.rows,
+        taken: c.of[feed::TAKEN as usize],
+        shape: c.of[feed::SHAPE as usize],
+        range: c.of[feed::RANGE as usize],
+        hostbits: c.of[feed::HOST_BITS as usize],
+        repeat: c.of[feed::REPEAT as usize],
+        noroom: c.of[feed::NO_ROOM_LEFT as usize],
     }
 }
 
-// The plain answer of a list at an address: 65,536 × number + hop.
+// In the one number that C gets of a lookup, the number stands above the hop.
+pub const NUMBER_UNIT: u32 = 65536;
+
+pub const LOOKUP_ILL_FORMED: u32 = NUMBER_UNIT * ground::ILL_FORMED;
+
+// A build's number stands above its count, and a run lookup's probes above its number and hop.
+pub const HIGH_UNIT: u64 = 4294967296;
+
+// The one number that C gets from a lookup: 65,536 × number + hop.
+fn lookup_for_c(r: Looked) -> u32
+    ensures { λ n. ⌜ n ≡ lookupForC (lookupGave r) ⌝ }
+{
+    match r {
+        Looked::Hop(h) => h as u32,
+        Looked::IllFormed => LOOKUP_ILL_FORMED,
+    }
+}
+
+// The one number that C gets from a run lookup: 4,294,967,296 × probes + 65,536 × number + hop.
+fn run_lookup_for_c(r: Probed) -> u64
+    requires { ⌜ runLookupGave r .probes ≤ 64 ⌝ }
+    ensures { λ n. ⌜ n ≡ runLookupForC (runLookupGave r) ⌝ }
+{
+    match r {
+        Probed::Hop { hop, probes } => HIGH_UNIT * (probes as u64) + hop as u64,
+        Probed::IllFormed => LOOKUP_ILL_FORMED as u64,
+    }
+}
+
+// The one number that C gets from a build: 4,294,967,296 × number + count of runs.
+fn built_for_c(r: Built) -> u64
+    ensures { λ n. ⌜ n ≡ builtForC (buildGave r [] []) ⌝ }
+{
+    match r {
+        Built::Runs(n) => n as u64,
+        Built::IllFormed => HIGH_UNIT * (ground::ILL_FORMED as u64),
+        Built::NoRoom => HIGH_UNIT * (ground::NO_ROOM as u64),
+    }
+}
+
+// The plain answer of a list at an address.
 #[no_mangle]
 pub extern "C" fn whelk_plain_lookup(count: usize, keys: &[u64], hops: &[u16], a: u32) -> u32
-    ensures { λ r. ⌜ r ≡ packedLookup count (now (keys .entry)) (now (hops .entry)) a ⌝ }
+    ensures { λ r. ⌜ r ≡ lookupForC (plainLookup (listLent count (now (keys .entry)) (now (hops .entry))) a) ⌝ }
 {
-    let found = routes::plain_lookup(count, keys, hops, a);
-    match found {
-        Looked::Hop(h) => h as u32,
-        Looked::IllFormed => 720896,
-    }
+    lookup_for_c(routes::plain_lookup(count, keys, hops, a))
 }
 
-// Run lookup over run bytes: 65,536 × number + hop.
+// Run lookup over run bytes.
 #[no_mangle]
 pub extern "C" fn whelk_run_lookup(bytes: &[u8], a: u32) -> u32
-    ensures { λ r. ⌜ r ≡ hostAnswer (now (bytes .entry)) a ⌝ }
+    ensures { λ r. ⌜ r ≡ lookupForC (bytesLookup (now (bytes .entry)) a) ⌝ }
 {
-    runs::whelk_run_lookup(bytes, a)
+    lookup_for_c(runs::bytes_lookup(bytes, a))
 }
 
-// Run lookup over the first `n` runs of lent starts and hops: 4,294,967,296 × probes + 65,536 × number + hop.
+// Run lookup over the first `n` runs of lent starts and hops.
 #[no_mangle]
 pub extern "C" fn whelk_run_lookup_slices(n: usize, starts: &[u32], hops: &[u16], a: u32) -> u64
-    ensures { λ r. ⌜ r ≡ slicesAnswer n (now (starts .entry)) (now (hops .entry)) a ⌝ }
+    ensures { λ r. ⌜ r ≡ runLookupForC (runLookup (runsLent n (now (starts .entry)) (now (hops .entry))) a) ⌝ }
 {
-    runs::whelk_run_lookup_slices(n, starts, hops, a)
+    run_lookup_for_c(runs::run_lookup(n, starts, hops, a))
 }
 
-// The run table of a list into lent starts and hops: 4,294,967,296 × number + count of runs.
+// The run table of a list into lent starts and hops.
 #[no_mangle]
 pub extern "C" fn whelk_build(
     count: usize,
@@ -93,12 +138,10 @@ pub extern "C" fn whelk_build(
     starts: &mut [u32],
     rhops: &mut [u16],
 ) -> u64
-    ensures { λ r. ⌜ HostBuilt count (now (keys .entry)) (now (hops .entry)) (now (starts .entry)) (now (rhops .entry)) r (now (starts .exit)) (now (rhops .exit)) ⌝ }
+    ensures { λ r.
+        ⌜ buildGaveC r (now (starts .exit)) (now (rhops .exit))
+        ≡ buildForC
+        (build (listLent count (now (keys .entry)) (now (hops .entry))) (slotsLent (now (starts .entry)) (now (rhops .entry)))) ⌝ }
 {
-    let b = runs::build(count, keys, hops, starts, rhops);
-    match b {
-        Built::Runs(n) => n as u64,
-        Built::IllFormed => 47244640256,
-        Built::NoRoom => 55834574848,
-    }
+    built_for_c(runs::build(count, keys, hops, starts, rhops))
 }

@@ -13,7 +13,7 @@ use borrow.Author.Tests.{ltb-true, ltb-false, eqb-true, eqb-false, eq-eqb, ne-eq
 use lib.Dec.{ltb, eqb}
 use lib.ListN.{length}
 use Rattle.ground.proofs.Truth.{decided, never-both, cond-true, cond-false, or-left, or-right, or-cases, or-neither, not-true}
-use Rattle.ground.specs.Column.{ascends}
+use Rattle.ground.specs.Column.{ascends, isIn}
 use Rattle.cidr.specs.Prefix.{lengthOf, holds, isPrefix}
 use Rattle.routes.specs.Row.{Row, row, those, keepRow}
 use Rattle.routes.specs.WellFormed.{ascending}
@@ -25,7 +25,7 @@ use Rattle.routes.proofs.Plain.{NoMatch, Longest, plain-cases, plain-no
 
 -- a prefix is listed where a row has it
 pub listed-has : (k : ℕ) (rows : List Row) → listed k rows ≡ true → (r : Row) × Has r rows × (r .key ≡ k)
-unfolding listed
+unfolding isIn
 listed-has k [] e = never-both e refl
 listed-has k (t ∷ ts) e =
     ⊎-elim (λ q. (t, List·Memᴰ·head refl, sym (eqb-true _ _ q))) (λ q. further (listed-has k ts q)) (or-cases (eqb k (t .key)) (listed k ts) e)
@@ -34,7 +34,7 @@ listed-has k (t ∷ ts) e =
     further w = (w .0, List·Memᴰ·tail (w .1), w .2)
 
 pub has-listed : (k : ℕ) (rows : List Row) (r : Row) → Has r rows → r .key ≡ k → listed k rows ≡ true
-unfolding listed
+unfolding isIn
 has-listed k [] r m e = absurd (List·Memᴰ·not-nil m)
 has-listed k (t ∷ ts) r m e =
     ⊎-elim (λ q. or-left (listed k ts) (eq-eqb _ _ (sym e ∙ ap (λ x. x .key) q))) (λ n. or-right (eqb k (t .key)) (has-listed k ts r n e))
@@ -220,7 +220,7 @@ module _ (k : ℕ) (rows rows′ : List Row) (b : ButFor k rows rows′) (asc : 
 -- How many rows the list has afterwards.
 module _ (k h : ℕ) where
   pub announced-length-new : (rows : List Row) → listed k rows ≡ false → length (announced k h rows) ≡ suc (length rows)
-  unfolding announced listed
+  unfolding announced isIn
   announced-length-new [] e = refl
   announced-length-new (t ∷ ts) e = go (order k (t .key)) (announced-length-new ts (or-neither (eqb k (t .key)) (listed k ts) e .1))
     where
@@ -230,7 +230,7 @@ module _ (k h : ℕ) where
       go (after l) rec = ap length (announced-after k h t ts l) ∙ ap suc rec
 
   pub announced-length-listed : (rows : List Row) → ascending rows ≡ true → listed k rows ≡ true → length (announced k h rows) ≡ length rows
-  unfolding listed
+  unfolding isIn
   announced-length-listed [] a e = never-both e refl
   announced-length-listed (t ∷ ts) a e = go (order k (t .key)) (announced-length-listed ts (ascending-tail t ts a))
     where

@@ -16,8 +16,9 @@ use Rattle.routes.specs.Plain.{plain}
 use Rattle.routes.proofs.Row.{Has}
 use Rattle.routes.proofs.WellFormed.{first-below, ascending-tail}
 use Rattle.routes.proofs.Plain.{NoMatch, Longest, plain-cases}
-use Rattle.routes.proofs.Rest.{rowAt, rest, rest-start, rest-next, rest-end}
-use Rattle.routes.proofs.Formed.{half-ascends}
+use Rattle.routes.proofs.RowsOf.{rowAt}
+use Rattle.routes.proofs.Rest.{rest, rest-start, rest-next, rest-end}
+use Rattle.routes.proofs.ListTest.{half-ascends}
 
 -- the hop that a walk over the rows keeps: a row's own where the row holds the address, else the one it had
 abbrev pub keptHop : ℕ → ℕ → Row → ℕ

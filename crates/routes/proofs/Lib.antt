@@ -1,11 +1,11 @@
 pub mod Row
+pub mod RowsOf
 pub mod WellFormed
 pub mod Plain
 pub mod Change
-pub mod PlaceLaws
+pub mod KeyPlace
 pub mod Columns
 mod Rest
-mod Formed
+mod ListTest
 pub mod LastMatch
-pub mod Settled
-mod Answer
+pub mod LookupOutcome

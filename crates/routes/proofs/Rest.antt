@@ -7,13 +7,10 @@ use Prim.Native.Nat.{ℕ, suc, _+_, _-_, _≤_, _<_}
 use native.Mathlib.Nat.{sub-zero}
 use native.Mathlib.Numerals.{add-one}
 use native.Mathlib.Omega.{arith}
-use lib.ListN.{getD, drop}
+use lib.ListN.{drop}
 use lib.Seq.{drop-cons}
-use Rattle.routes.specs.Row.{Row, row, rowsOf, listRoom}
-
--- the row at a place
-abbrev pub rowAt : List ℕ → List ℕ → ℕ → Row
-rowAt keys hops i = row (getD keys i 0) (getD hops i 0)
+use Rattle.routes.specs.Row.{Row, rowsOf, listRoom}
+use Rattle.routes.proofs.RowsOf.{rowAt}
 
 -- the rows from a place on
 pub rest : ℕ → List ℕ → List ℕ → ℕ → List Row

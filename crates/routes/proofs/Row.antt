@@ -1,9 +1,11 @@
--- Which rows a list has: those that pass a test are the listed rows of which the test is true.
+-- Which rows a list has: those that pass a test are the listed rows of which the test is true, and of one list behind another those of the
+-- one behind those of the other.
 -- Assumes nothing.
 use mathlib.Core.Path.{_≡_, refl, sym, ap, _∙_}
 use mathlib.Core.Logic.{_⊎_, inl, inr, ⊎-elim}
 use mathlib.Core.Bool.{Bool, true, false}
-use mathlib.Core.List.{List, [], _∷_, List·Memᴰ, List·Memᴰ·head, List·Memᴰ·tail, List·Memᴰ·cases-cons, List·Memᴰ·not-nil}
+use mathlib.Core.List.{List, [], _∷_, _++_, append-nil}
+use mathlib.Core.List.{List·Memᴰ, List·Memᴰ·head, List·Memᴰ·tail, List·Memᴰ·cases-cons, List·Memᴰ·not-nil}
 use Rattle.ground.proofs.Truth.{and-left, and-right, and-both, never-both}
 use Rattle.routes.specs.Row.{Row, every, keepRow, those}
 
@@ -50,3 +52,21 @@ module _ (p : Row → Bool) where
   has-those (s ∷ ss) r m e =
       ⊎-elim (λ q. keep-head (p s) s r (those p ss) (sym (ap p q) ∙ e) q) (λ n. keep-tail (p s) s r (those p ss) (has-those ss r n e))
       (List·Memᴰ·cases-cons m)
+
+  pub those-append : (xs ys : List Row) → those p (xs ++ ys) ≡ those p xs ++ those p ys
+  unfolding those
+  those-append [] ys = refl
+  those-append (x ∷ xs) ys = rw (those-append xs ys) (go (p x))
+    where
+      go : (b : Bool) → keepRow b x (those p xs ++ those p ys) ≡ keepRow b x (those p xs) ++ those p ys
+      go true = refl
+      go false = refl
+
+  -- one row more, which passes or doesn't
+  pub those-one : (xs : List Row) (r : Row) → p r ≡ true → those p (xs ++ r ∷ []) ≡ those p xs ++ r ∷ []
+  unfolding those
+  those-one xs r e = those-append xs (r ∷ []) ∙ rw e
+
+  pub those-none : (xs : List Row) (r : Row) → p r ≡ false → those p (xs ++ r ∷ []) ≡ those p xs
+  unfolding those
+  those-none xs r e = those-append xs (r ∷ []) ∙ rw (e, append-nil)

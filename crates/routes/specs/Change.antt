@@ -1,20 +1,20 @@
 -- "Announce adds a prefix or gives a listed one its new hop; withdraw removes it." The list afterwards, in key order.
 -- "The reported number counts addresses whose plain answer differs before and after, 0 to 4,294,967,296."
 -- Assumes nothing.
-use mathlib.Core.Bool.{Bool, false, not, cond, _||_}
+use mathlib.Core.Bool.{Bool, not, cond}
 use mathlib.Core.List.{List, [], _∷_}
 use Prim.Native.Nat.{ℕ}
 use lib.Dec.{ltb, eqb}
 use Rattle.cidr.specs.Prefix.{addresses}
+use Rattle.ground.specs.Column.{isIn}
 use Rattle.ground.specs.Stretch.{counted}
-use Rattle.routes.specs.Row.{Row, row, those}
+use Rattle.routes.specs.Row.{Row, row, keysOf, those}
 use Rattle.routes.specs.Plain.{plain}
 pub mod Laws
 
 -- the prefix is listed
-unfoldable pub listed : ℕ → List Row → Bool
-listed k [] = false
-listed k (r ∷ rs) = eqb k (r .key) || listed k rs
+abbrev pub listed : ℕ → List Row → Bool
+listed k rows = isIn k (keysOf rows)
 
 -- the list after the prefix k was announced with the hop h
 unfoldable pub announced : ℕ → ℕ → List Row → List Row

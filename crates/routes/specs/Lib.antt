@@ -4,4 +4,3 @@ pub mod Plain
 pub mod Change
 pub mod Lookup
 pub mod Place
-pub mod Looked

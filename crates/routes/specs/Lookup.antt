@@ -1,29 +1,38 @@
--- What the lookups over a list return: 11 for an ill-formed list, else 0 with the plain answer.
+-- The lookups over a list: 11 for an ill-formed list, else 0 with the plain answer. Over a half label 0 is an ordinary hop.
 -- Assumes nothing.
 use mathlib.Core.Bool.{not}
 use mathlib.Core.List.{List, [], _∷_}
 use Prim.Native.Nat.{ℕ}
-use Rattle.ground.specs.Numbers.{Check, check, firstFault, ifDone, illFormed}
-use Rattle.routes.specs.Row.{rowsOf}
+use Rattle.ground.specs.Numbers.{Check, check, outcome, done, illFormed}
+use Rattle.routes.specs.declared.Looked.{Looked}
+use Rattle.routes.specs.declared.Looked.the-variants.{Hop, IllFormed}
+use Rattle.routes.specs.Row.{ListLent, rowsLent}
 use Rattle.routes.specs.WellFormed.{wellFormed, halfFormed}
 use Rattle.routes.specs.Plain.{plain}
 
--- plain lookup: its checks, its number, and its hop
-unfoldable pub lookupChecks : ℕ → List ℕ → List ℕ → List Check
-lookupChecks count keys hops = check (not (wellFormed count keys hops)) illFormed ∷ []
+-- what a lookup returns: its number, and the hop, which of a half is its label
+pub record LookupOutcome : Type 0 where
+  pub number : ℕ
+  pub hop : ℕ
 
-unfoldable pub lookupNumber : ℕ → List ℕ → List ℕ → ℕ
-lookupNumber count keys hops = firstFault (lookupChecks count keys hops)
+abbrev pub lookedUp : ℕ → ℕ → LookupOutcome
+lookedUp n h = record { number = n; hop = h }
 
-unfoldable pub lookupHop : ℕ → List ℕ → List ℕ → ℕ → ℕ
-lookupHop count keys hops a = ifDone (lookupNumber count keys hops) (plain (rowsOf count keys hops) a)
+-- the same, read from the code's answer
+abbrev pub lookupGave : Looked → LookupOutcome
+lookupGave (Hop h) = lookedUp done h
+lookupGave IllFormed = lookedUp illFormed 0
 
--- lookup over a half: the same, with label 0 an ordinary hop
-unfoldable pub halfChecks : ℕ → List ℕ → List ℕ → List Check
-halfChecks count keys hops = check (not (halfFormed count keys hops)) illFormed ∷ []
+-- plain lookup
+unfoldable pub lookupChecks : ListLent → List Check
+lookupChecks l = check (not (wellFormed (l .count) (l .keys) (l .hops))) illFormed ∷ []
 
-unfoldable pub halfNumber : ℕ → List ℕ → List ℕ → ℕ
-halfNumber count keys hops = firstFault (halfChecks count keys hops)
+unfoldable pub plainLookup : ListLent → ℕ → LookupOutcome
+plainLookup l a = outcome (lookupChecks l) (λ n. lookedUp n 0) (lookedUp done (plain (rowsLent l) a))
 
-unfoldable pub halfLabel : ℕ → List ℕ → List ℕ → ℕ → ℕ
-halfLabel count keys hops a = ifDone (halfNumber count keys hops) (plain (rowsOf count keys hops) a)
+-- lookup over a half
+unfoldable pub halfChecks : ListLent → List Check
+halfChecks l = check (not (halfFormed (l .count) (l .keys) (l .hops))) illFormed ∷ []
+
+unfoldable pub halfLookup : ListLent → ℕ → LookupOutcome
+halfLookup l a = outcome (halfChecks l) (λ n. lookedUp n 0) (lookedUp done (plain (rowsLent l) a))

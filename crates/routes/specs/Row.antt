@@ -20,6 +20,19 @@ rowsOf (suc count) [] hops = []
 rowsOf (suc count) (k ∷ keys) [] = []
 rowsOf (suc count) (k ∷ keys) (h ∷ hops) = row k h ∷ rowsOf count keys hops
 
+-- a list as it is lent: a count with its two slices
+pub record ListLent : Type 0 where
+  pub count : ℕ
+  pub keys : List ℕ
+  pub hops : List ℕ
+
+abbrev pub listLent : ℕ → List ℕ → List ℕ → ListLent
+listLent count keys hops = record { count = count; keys = keys; hops = hops }
+
+-- its rows
+abbrev pub rowsLent : ListLent → List Row
+rowsLent l = rowsOf (l .count) (l .keys) (l .hops)
+
 -- the two columns of a list of rows
 abbrev pub keysOf : List Row → List ℕ
 keysOf rows = map (λ r. r .key) rows

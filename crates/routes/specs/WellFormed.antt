@@ -36,7 +36,7 @@ wellFormed count keys hops = leb count (listRoom keys hops) && goodRows (rowsOf 
 unfoldable pub halfFormed : ℕ → List ℕ → List ℕ → Bool
 halfFormed count keys hops = leb count (listRoom keys hops) && halfRows (rowsOf count keys hops)
 
--- the two by a flag: whether label 0 is an ordinary hop
+-- the two by a flag: whether the list is a half, in which label 0 is an ordinary hop
 unfoldable pub formed : Bool → ℕ → List ℕ → List ℕ → Bool
 formed true count keys hops = halfFormed count keys hops
 formed false count keys hops = wellFormed count keys hops

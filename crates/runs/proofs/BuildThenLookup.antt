@@ -2,70 +2,59 @@
 -- Assumes nothing.
 use mathlib.Core.Path.{_≡_, sym, ap, _∙_}
 use mathlib.Core.Logic.{⊎-elim}
-use mathlib.Core.Bool.{true, false, not}
+use mathlib.Core.Bool.{true, false}
 use mathlib.Core.List.{List}
 use Prim.Native.Nat.{ℕ, _<_}
 use native.Mathlib.Omega.{arith}
-use lib.Dec.{eqb}
 use lib.ListN.{length, take, length-map}
-use lib.Seq.{take-at}
-use Rattle.ground.specs.Numbers.{firstFault, ifDone}
+use Rattle.ground.specs.Numbers.{firstFault, outcome, done}
 use Rattle.ground.specs.Slots.{written}
-use Rattle.ground.proofs.Truth.{decided, cond-true}
+use Rattle.ground.proofs.Truth.{decided}
+use Rattle.ground.proofs.Slots.{take-written}
 use Rattle.cidr.specs.Prefix.{addresses}
-use Rattle.routes.specs.Row.{rowsOf}
+use Rattle.routes.specs.Row.{Row, ListLent, rowsLent}
 use Rattle.routes.specs.WellFormed.{wellFormed}
 use Rattle.routes.specs.Plain.{plain}
-use Rattle.routes.specs.Lookup.{lookupChecks, lookupNumber, lookupHop}
+use Rattle.routes.specs.Lookup.{LookupOutcome, lookupChecks, plainLookup, lookupGave}
 use Rattle.routes.specs.declared.Looked.{Looked}
-use Rattle.routes.specs.Looked.{lookedHop, LookedUp}
 use Rattle.runs.specs.declared.Built.the-variants.{Runs}
 use Rattle.runs.specs.declared.Probed.{Probed}
-use Rattle.runs.specs.Table.{runStarts, runHops, startsOf, runHopsOf}
-use Rattle.runs.specs.Build.{buildChecks, buildNumber, buildCount, buildStarts, buildHops}
-use Rattle.runs.specs.Answers.{BuiltFrom}
-use Rattle.runs.specs.Probed.{probedNumber, probedHop, RunLookedUp}
-use Rattle.runs.proofs.Lookups.{looked-up-plain}
+use Rattle.runs.specs.Table.{runsLent, runStarts, runHops, startsOf, runHopsOf}
+use Rattle.runs.specs.Build.{SlotsLent, BuildOutcome, built, buildGave, build, runRoom}
+use Rattle.runs.specs.Lookup.{RunLookupOutcome, runLookupGave, runLookup}
+use Rattle.runs.specs.Inside.Rows.{buildRows}
+use Rattle.runs.proofs.Lookups.{run-lookup-plain}
+use Rattle.runs.proofs.TableOutcomes.{build-ill, build-well, rows-done}
 
--- what was written stands at the front
-front : (new old : List ℕ) (n : ℕ) → n ≡ length new → take n (written new old) ≡ new
-unfolding written
-front new old n e = take-at new _ n (sym e)
-
-same-count : (count : ℕ) (keys hops : List ℕ) → length (runHops (rowsOf count keys hops)) ≡ length (runStarts (rowsOf count keys hops))
+same-count : (rows : List Row) → length (runHops rows) ≡ length (runStarts rows)
 unfolding runHops runHopsOf runStarts
-same-count count keys hops = length-map (startsOf (plain (rowsOf count keys hops))) (plain (rowsOf count keys hops))
+same-count rows = length-map (startsOf (plain rows)) (plain rows)
 
-module _ {count n : ℕ} {keys hops starts rhops starts′ rhops′ : List ℕ} (b : BuiltFrom count keys hops starts rhops (Runs n) starts′ rhops′) where
-  accepted : eqb (buildNumber count keys hops starts rhops) 0 ≡ true
-  accepted = ap (λ x. eqb x 0) (sym (b .number))
-
-  count-is : n ≡ length (runStarts (rowsOf count keys hops))
-  unfolding buildCount ifDone
-  count-is = b .runs ∙ cond-true _ _ accepted
-
-  starts-are : take n starts′ ≡ runStarts (rowsOf count keys hops)
-  unfolding buildStarts
-  starts-are = ap (take n) (b .starts-left ∙ cond-true _ _ accepted) ∙ front _ starts n count-is
-
-  hops-are : take n rhops′ ≡ runHops (rowsOf count keys hops)
-  unfolding buildHops
-  hops-are = ap (take n) (b .hops-left ∙ cond-true _ _ accepted) ∙ front _ rhops n (count-is ∙ sym (same-count count keys hops))
-
+module _ (l : ListLent) (t : SlotsLent) {n : ℕ} {starts hops : List ℕ} (b : buildGave (Runs n) starts hops ≡ build l t) where
   -- an accepted build's list is well-formed, so plain lookup answers
-  ill-number : wellFormed count keys hops ≡ false → buildNumber count keys hops starts rhops ≡ 11
-  unfolding buildNumber buildChecks firstFault
-  ill-number e = cond-true _ _ (ap not e)
+  well : wellFormed (l .count) (l .keys) (l .hops) ≡ true
+  well = ⊎-elim (λ e. e) (λ e. absurd (omega (arith, ap (λ (o : BuildOutcome). o .number) (b ∙ sym (build-ill l t e))))) (decided _)
 
-  well : wellFormed count keys hops ≡ true
-  well = ⊎-elim (λ e. e) (λ e. absurd (omega (arith, ill-number e, b .number))) (decided (wellFormed count keys hops))
+  left : built done n starts hops ≡ built done (length (runStarts (rowsLent l))) (written (runStarts (rowsLent l)) (t .starts)) (written (runHops (rowsLent l)) (t .hops))
+  left = rows-done (rowsLent l) t (b ∙ build-well l t well)
 
-  plain-answers : (a : ℕ) → lookupHop count keys hops a ≡ plain (rowsOf count keys hops) a
-  unfolding lookupHop lookupNumber lookupChecks firstFault ifDone
+  count-is : n ≡ length (runStarts (rowsLent l))
+  count-is = ap (λ (o : BuildOutcome). o .runs) left
+
+  starts-are : take n starts ≡ runStarts (rowsLent l)
+  starts-are = ap (take n) (ap (λ (o : BuildOutcome). o .starts) left) ∙ take-written _ (t .starts) n count-is
+
+  hops-are : take n hops ≡ runHops (rowsLent l)
+  hops-are = ap (take n) (ap (λ (o : BuildOutcome). o .hops) left) ∙ take-written _ (t .hops) n (count-is ∙ sym (same-count (rowsLent l)))
+
+  plain-answers : (a : ℕ) → plainLookup l a .hop ≡ plain (rowsLent l) a
+  unfolding plainLookup lookupChecks firstFault outcome
   plain-answers a = rw well
 
-  pub build-then-lookup : {a : ℕ} {r : Probed} {p : Looked} → a < addresses → RunLookedUp n starts′ rhops′ a r → LookedUp count keys hops a p
-      → (probedNumber r ≡ 0) × (probedHop r ≡ lookedHop p)
-  build-then-lookup {a} l r p =
-      let found = looked-up-plain (rowsOf count keys hops) n starts′ rhops′ count-is starts-are hops-are r l in
-      (found .0, found .1 ∙ sym (p .hop ∙ plain-answers a))
+  pub build-then-lookup : {a : ℕ} (r : Probed) (p : Looked) → a < addresses → runLookupGave r ≡ runLookup (runsLent n starts hops) a
+      → lookupGave p ≡ plainLookup l a → (runLookupGave r .number ≡ done) × (runLookupGave r .hop ≡ lookupGave p .hop)
+  build-then-lookup {a} r p below e e′ =
+      let found = run-lookup-plain (rowsLent l) n starts hops count-is starts-are hops-are a below in (
+        ap (λ (o : RunLookupOutcome). o .number) e ∙ found .0,
+        ap (λ (o : RunLookupOutcome). o .hop) e ∙ found .1 ∙ sym (ap (λ (o : LookupOutcome). o .hop) e′ ∙ plain-answers a),
+      )

@@ -1,18 +1,18 @@
 -- Lookup in a run table finds the run that holds the address, so the hop there is the answer; lookup in its run bytes finds the same.
 -- Assumes nothing.
-use mathlib.Core.Path.{_≡_, refl}
+use mathlib.Core.Path.{_≡_, refl, _∙_}
 use mathlib.Core.List.{List, [], _∷_}
 use Prim.Native.Nat.{ℕ, zero, suc, _+_, _*_, _/_, _≤_, _<_}
-use native.Mathlib.Nat.{zero-add}
 use native.Mathlib.Omega.{arith}
 use lib.ListN.{length, getD}
-use Rattle.ground.specs.Numbers.{ifDone}
-use Rattle.ground.proofs.Halving.{low-below, low-at-most, next-above, halving-agrees}
+use Rattle.ground.specs.Numbers.{firstFault, done}
+use Rattle.halving.proofs.Halving.{low-below, low-at-most, next-above, halving-agrees}
 use Rattle.cidr.specs.Prefix.{addresses}
+use Rattle.routes.specs.Lookup.{lookedUp}
 use Rattle.runs.specs.Table.{RunTable}
 use Rattle.runs.specs.Bytes.{runBytes, startAt, hopAt}
-use Rattle.runs.specs.Lookup.{inSlices, inBytes, hostNumber, hostHop, hostAnswer}
-use Rattle.runs.proofs.Answers.{sixes-accepted}
+use Rattle.runs.specs.Lookup.{inSlices, inBytes, bytesChecks, bytesLookup}
+use Rattle.runs.proofs.LookupOutcomes.{sixes-accepted, bytes-looked-up}
 
 -- run i holds the address
 pub record RunHolds (starts : List ℕ) (a i : ℕ) : Type 0 where
@@ -82,15 +82,14 @@ module _ (starts hops : List ℕ) (paired : length hops ≡ length starts) where
       (halving-agrees (startAt (runBytes starts hops)) (length starts) a (λ i. getD starts i 0)
       (λ i l. start-at starts hops i l (omega arith)))
 
-  pub bytes-accepted : 0 < length starts → hostNumber (runBytes starts hops) ≡ 0
+  pub bytes-accepted : 0 < length starts → firstFault (bytesChecks (runBytes starts hops)) ≡ done
   bytes-accepted some =
       let six : length (runBytes starts hops) ≡ length starts * 6 = run-bytes-length starts hops paired in
       sixes-accepted (runBytes starts hops) (omega arith) (omega arith)
 
 module _ {f : ℕ → ℕ} {starts hops : List ℕ} (t : RunTable f starts hops) (a : ℕ) where
-  pub host-answers : a < addresses → hostAnswer (runBytes starts hops) a ≡ f a
-  unfolding hostAnswer hostHop ifDone
-  host-answers h =
+  pub bytes-answer : a < addresses → bytesLookup (runBytes starts hops) a ≡ lookedUp done (f a)
+  bytes-answer h =
       let found = place-found t a .in-table in
-      rw (bytes-accepted starts hops (t .paired) (t .some-run), bytes-found starts hops (t .paired) a, zero-add)
-      (rw (hop-at starts hops _ found (omega arith)) (hop-found t a h))
+      bytes-looked-up _ a (bytes-accepted starts hops (t .paired) (t .some-run))
+      ∙ rw (bytes-found starts hops (t .paired) a, hop-at starts hops _ found (omega arith), hop-found t a h)

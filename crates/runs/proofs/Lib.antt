@@ -1,10 +1,8 @@
 pub mod Table
 pub mod Found
-pub mod Answers
+pub mod LookupOutcomes
 pub mod Lookups
-pub mod SettledLookups
-pub mod Sweep
-pub mod Turning
-pub mod Whole
+pub mod WholeList
+pub mod TableOutcomes
 pub mod Settled
 pub mod BuildThenLookup

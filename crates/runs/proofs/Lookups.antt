@@ -7,19 +7,18 @@ use Prim.Native.Nat.{ℕ, _≤_, _<_}
 use native.Mathlib.Omega.{arith}
 use lib.ListN.{length, getD, take, length-take}
 use lib.Seq.{getD-take}
-use Rattle.ground.specs.Numbers.{ifDone}
-use Rattle.ground.proofs.Halving.{halving-agrees}
+use Rattle.ground.specs.Numbers.{firstFault, done}
+use Rattle.halving.proofs.Halving.{halving-agrees}
 use Rattle.cidr.specs.Prefix.{addresses}
 use Rattle.routes.specs.Row.{Row}
 use Rattle.routes.specs.Plain.{plain}
-use Rattle.runs.specs.Table.{RunTable, runStarts, runHops}
+use Rattle.routes.specs.Lookup.{lookedUp}
+use Rattle.runs.specs.Table.{RunTable, runsLent, runStarts, runHops}
 use Rattle.runs.specs.Bytes.{runBytes}
-use Rattle.runs.specs.Lookup.{inSlices, runNumber, runHop, hostAnswer}
-use Rattle.runs.specs.declared.Probed.{Probed}
-use Rattle.runs.specs.Probed.{RunLookedUp, probedNumber, probedHop}
+use Rattle.runs.specs.Lookup.{inSlices, runChecks, runLookup, bytesLookup}
 use Rattle.runs.proofs.Table.{table-of}
-use Rattle.runs.proofs.Found.{place-found, hop-found, host-answers}
-use Rattle.runs.proofs.Answers.{runs-accepted}
+use Rattle.runs.proofs.Found.{place-found, hop-found, bytes-answer}
+use Rattle.runs.proofs.LookupOutcomes.{runs-accepted, accepted}
 
 -- a list whose first slots are another one's is at least as long, and has its numbers there
 first-long : (n : ℕ) (xs ys : List ℕ) → take n xs ≡ ys → n ≡ length ys → n ≤ length xs
@@ -30,35 +29,31 @@ first-slot n xs ys e i l = sym (getD-take n xs i 0 l) ∙ rw e
 
 module _ {f : ℕ → ℕ} {runs ans : List ℕ} (t : RunTable f runs ans) (starts hops : List ℕ) (s : take (length runs) starts ≡ runs)
     (h : take (length runs) hops ≡ ans) where
-  table-accepted : runNumber (length runs) starts hops ≡ 0
+  table-accepted : firstFault (runChecks (runsLent (length runs) starts hops)) ≡ done
   table-accepted =
       let long = first-long (length runs) starts runs s refl in
       let long′ = first-long (length runs) hops ans h (sym (t .paired)) in
-      runs-accepted _ _ _ (t .some-run) (omega arith)
+      runs-accepted _ (t .some-run) (omega arith)
 
-  table-answers : (a : ℕ) → a < addresses → runHop (length runs) starts hops a ≡ f a
-  unfolding runHop inSlices ifDone
+  table-answers : (a : ℕ) → a < addresses
+      → (runLookup (runsLent (length runs) starts hops) a .number ≡ done) × (runLookup (runsLent (length runs) starts hops) a .hop ≡ f a)
+  unfolding inSlices
   table-answers a l =
       let same = halving-agrees (λ i. getD starts i 0) (length runs) a (λ i. getD runs i 0) (first-slot (length runs) starts runs s) in
       let hop = first-slot (length runs) hops ans h _ (place-found t a .in-table) in
-      rw (table-accepted, same) (hop ∙ hop-found t a l)
+      let is = accepted (runsLent (length runs) starts hops) a table-accepted in
+      (rw is, rw (is, same) (hop ∙ hop-found t a l))
 
+-- in the first slots of lent slices, which may be longer
 module _ (rows : List Row) (n : ℕ) (starts hops : List ℕ) (count : n ≡ length (runStarts rows)) (s : take n starts ≡ runStarts rows)
     (h : take n hops ≡ runHops rows) where
-  pub runs-of-list-accepted : runNumber n starts hops ≡ 0
+  pub run-lookup-plain : (a : ℕ) → a < addresses
+      → (runLookup (runsLent n starts hops) a .number ≡ done) × (runLookup (runsLent n starts hops) a .hop ≡ plain rows a)
   unfolding runStarts runHops
-  runs-of-list-accepted = rw count (table-accepted (table-of (plain rows)) starts hops (rw count at s) (rw count at h))
+  run-lookup-plain a l = rw count (table-answers (table-of (plain rows)) starts hops (rw count at s) (rw count at h) a l)
 
-  pub run-hop-plain : (a : ℕ) → a < addresses → runHop n starts hops a ≡ plain rows a
-  unfolding runStarts runHops
-  run-hop-plain a l = rw count (table-answers (table-of (plain rows)) starts hops (rw count at s) (rw count at h) a l)
-
-  -- whatever `run_lookup` gives
-  pub looked-up-plain : {a : ℕ} {r : Probed} → RunLookedUp n starts hops a r → a < addresses
-      → (probedNumber r ≡ 0) × (probedHop r ≡ plain rows a)
-  looked-up-plain r l = (r .number ∙ runs-of-list-accepted, r .hop ∙ run-hop-plain _ l)
-
--- whatever `whelk_run_lookup` gives
-pub host-answer-plain : (rows : List Row) (a : ℕ) → a < addresses → hostAnswer (runBytes (runStarts rows) (runHops rows)) a ≡ plain rows a
+-- in its run bytes
+pub bytes-lookup-plain : (rows : List Row) (a : ℕ) → a < addresses
+    → bytesLookup (runBytes (runStarts rows) (runHops rows)) a ≡ lookedUp done (plain rows a)
 unfolding runStarts runHops
-host-answer-plain rows a l = host-answers (table-of (plain rows)) a l
+bytes-lookup-plain rows a l = bytes-answer (table-of (plain rows)) a l

@@ -1,48 +1,47 @@
--- Document 01 settles a build and a pair check: two outcomes that keep the promise for one input are the same, in the answer and, for a
--- build, in both lent slices.
+-- A build and a pair check are settled: two outcomes that keep the promise for one input are the same, in the answer and, for a build, in both
+-- lent slices. An outcome tells its answer and its slices.
 -- Assumes nothing.
 use mathlib.Core.Path.{_≡_, refl, sym, ap, _∙_}
+use mathlib.Core.Bool.{cond}
 use mathlib.Core.List.{List}
 use Prim.Native.Nat.{ℕ}
-use native.Mathlib.Omega.{arith}
+use lib.Dec.{eqb}
+use Rattle.ground.specs.Numbers.{done, illFormed}
+use Rattle.routes.specs.Row.{ListLent}
 use Rattle.runs.specs.declared.Built.{Built}
 use Rattle.runs.specs.declared.Built.the-variants as B
 use Rattle.runs.specs.declared.Paired.{Paired}
 use Rattle.runs.specs.declared.Paired.the-variants as P
-use Rattle.runs.specs.Pair.{Pair, pairNumber}
-use Rattle.runs.specs.Answers.{builtNumber, builtCount, BuiltFrom, pairedNumber}
+use Rattle.runs.specs.Build.{SlotsLent, BuildOutcome, buildGave, build}
+use Rattle.runs.specs.Pair.{Pair, pairGave, pairCheck}
 
--- a build's answer is its number and its count, a pair check's its number
-same-built : (r r′ : Built) → builtNumber r ≡ builtNumber r′ → builtCount r ≡ builtCount r′ → r ≡ r′
-same-built (B.Runs n) (B.Runs m) e c = ap B.Runs c
-same-built (B.Runs n) B.IllFormed e c = absurd (omega arith)
-same-built (B.Runs n) B.NoRoom e c = absurd (omega arith)
-same-built B.IllFormed (B.Runs m) e c = absurd (omega arith)
-same-built B.IllFormed B.IllFormed e c = refl
-same-built B.IllFormed B.NoRoom e c = absurd (omega arith)
-same-built B.NoRoom (B.Runs m) e c = absurd (omega arith)
-same-built B.NoRoom B.IllFormed e c = absurd (omega arith)
-same-built B.NoRoom B.NoRoom e c = refl
+abbrev builtBy : BuildOutcome → Built
+builtBy o = cond (eqb (o .number) done) (B.Runs (o .runs)) (cond (eqb (o .number) illFormed) B.IllFormed B.NoRoom)
 
-same-paired : (r r′ : Paired) → pairedNumber r ≡ pairedNumber r′ → r ≡ r′
-same-paired P.Agreed P.Agreed e = refl
-same-paired P.Agreed P.IllFormed e = absurd (omega arith)
-same-paired P.Agreed P.NotItsRuns e = absurd (omega arith)
-same-paired P.IllFormed P.Agreed e = absurd (omega arith)
-same-paired P.IllFormed P.IllFormed e = refl
-same-paired P.IllFormed P.NotItsRuns e = absurd (omega arith)
-same-paired P.NotItsRuns P.Agreed e = absurd (omega arith)
-same-paired P.NotItsRuns P.IllFormed e = absurd (omega arith)
-same-paired P.NotItsRuns P.NotItsRuns e = refl
+tells : (r : Built) (starts hops : List ℕ)
+    → let o = buildGave r starts hops in (builtBy o ≡ r) × (o .starts ≡ starts) × (o .hops ≡ hops)
+tells (B.Runs n) starts hops = (refl, refl, refl)
+tells B.IllFormed starts hops = (refl, refl, refl)
+tells B.NoRoom starts hops = (refl, refl, refl)
 
-module _ (count : ℕ) (keys hops starts rhops : List ℕ) (r r′ : Built) (s s′ h h′ : List ℕ) where
-  pub built-settled : BuiltFrom count keys hops starts rhops r s h → BuiltFrom count keys hops starts rhops r′ s′ h′
-      → (r ≡ r′) × (s ≡ s′) × (h ≡ h′)
-  built-settled b b′ = (
-    same-built r r′ (b .number ∙ sym (b′ .number)) (b .runs ∙ sym (b′ .runs)),
-    b .starts-left ∙ sym (b′ .starts-left),
-    b .hops-left ∙ sym (b′ .hops-left),
-  )
+module _ (l : ListLent) (t : SlotsLent) (r r′ : Built) (s s′ h h′ : List ℕ) where
+  pub build-settled : buildGave r s h ≡ build l t → buildGave r′ s′ h′ ≡ build l t → (r ≡ r′) × (s ≡ s′) × (h ≡ h′)
+  build-settled e e′ =
+      let same = e ∙ sym e′ in
+      let one = tells r s h in
+      let other = tells r′ s′ h′ in (
+        sym (one .0) ∙ ap builtBy same ∙ other .0,
+        sym (one .1) ∙ ap (λ (o : BuildOutcome). o .starts) same ∙ other .1,
+        sym (one .2) ∙ ap (λ (o : BuildOutcome). o .hops) same ∙ other .2,
+      )
 
-pub paired-settled : (p : Pair) (r r′ : Paired) → pairedNumber r ≡ pairNumber p → pairedNumber r′ ≡ pairNumber p → r ≡ r′
-paired-settled p r r′ e e′ = same-paired r r′ (e ∙ sym e′)
+abbrev pairedBy : ℕ → Paired
+pairedBy n = cond (eqb n done) P.Agreed (cond (eqb n illFormed) P.IllFormed P.NotItsRuns)
+
+tells-pair : (r : Paired) → pairedBy (pairGave r) ≡ r
+tells-pair P.Agreed = refl
+tells-pair P.IllFormed = refl
+tells-pair P.NotItsRuns = refl
+
+pub pair-settled : (p : Pair) (r r′ : Paired) → pairGave r ≡ pairCheck p → pairGave r′ ≡ pairCheck p → r ≡ r′
+pair-settled p r r′ e e′ = sym (tells-pair r) ∙ ap pairedBy (e ∙ sym e′) ∙ tells-pair r′

@@ -10,6 +10,8 @@ use lib.ListN.{length, getD, length-map}
 use lib.Seq.{ext-getD}
 use lib.Dec.{eqb}
 use borrow.Author.Tests.{eqb-false}
+use Rattle.ground.proofs.Truth.{or-neither, or-cases}
+use Rattle.ground.proofs.Map.{getD-map}
 use Rattle.ground.specs.Stretch.{counted, turns}
 use Rattle.ground.specs.Stretch.Picks.{Picks, picks, picks-front, only-picks}
 use Rattle.ground.specs.Stretch.Count.{counted-is, counted-le, counted-or-le, counted-point-le}
@@ -17,15 +19,9 @@ use Rattle.ground.specs.Stretch.Turns.{turns-at-first, turns-of-ne, stays-of-sa
 use Rattle.cidr.specs.Prefix.{addresses, network, endOf}
 use Rattle.cidr.proofs.Turn.{holds-stays}
 use Rattle.routes.specs.Row.{Row, those}
-use Rattle.ground.proofs.Truth.{or-neither, or-cases}
 use Rattle.routes.specs.Plain.{matching, plain}
 use Rattle.runs.specs.Table.{RunTable, startsOf, runHopsOf, runStarts}
 use Rattle.runs.specs.Table.Laws.{starts-are}
-
-pub getD-map : (f : ℕ → ℕ) (xs : List ℕ) (i : ℕ) → i < length xs → getD (map f xs) i 0 ≡ f (getD xs i 0)
-getD-map f [] i l = absurd (omega arith)
-getD-map f (x ∷ xs) zero l = refl
-getD-map f (x ∷ xs) (suc i) l = getD-map f xs i (omega arith)
 
 -- the numbers at which f turns are the starts of a run table of f
 table-of-turns : (f : ℕ → ℕ) (starts : List ℕ) → Picks (turns f) 0 addresses starts → RunTable f starts (map f starts)

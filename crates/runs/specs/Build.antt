@@ -6,10 +6,12 @@ use mathlib.Core.List.{List, [], _∷_}
 use Prim.Native.Nat.{ℕ, min}
 use lib.ListN.{length}
 use lib.Dec.{ltb}
-use Rattle.ground.specs.Numbers.{Check, check, firstFault, ifDone, ifAccepted, illFormed, noRoom}
+use Rattle.ground.specs.Numbers.{Check, check, outcome, done, illFormed, noRoom}
 use Rattle.ground.specs.Slots.{written}
-use Rattle.routes.specs.Row.{rowsOf}
+use Rattle.routes.specs.Row.{ListLent, rowsLent}
 use Rattle.routes.specs.WellFormed.{wellFormed}
+use Rattle.runs.specs.declared.Built.{Built}
+use Rattle.runs.specs.declared.Built.the-variants.{Runs, IllFormed, NoRoom}
 use Rattle.runs.specs.Table.{runStarts, runHops}
 
 abbrev pub topRuns : ℕ
@@ -19,24 +21,37 @@ topRuns = 2097153
 unfoldable pub runRoom : List ℕ → List ℕ → ℕ
 runRoom starts rhops = min (min (length starts) (length rhops)) topRuns
 
--- what a build returns and leaves: 11, or 13, or the run table of the list and its count
-unfoldable pub buildChecks : ℕ → List ℕ → List ℕ → List ℕ → List ℕ → List Check
-buildChecks count keys hops starts rhops =
-    check (not (wellFormed count keys hops)) illFormed
-    ∷ check (ltb (runRoom starts rhops) (length (runStarts (rowsOf count keys hops)))) noRoom
+-- the two slices that a build is lent for the starts and the runs' hops
+pub record SlotsLent : Type 0 where
+  pub starts : List ℕ
+  pub hops : List ℕ
+
+abbrev pub slotsLent : List ℕ → List ℕ → SlotsLent
+slotsLent starts hops = record { starts = starts; hops = hops }
+
+-- what a build returns and leaves: its number, the count of runs, and the two slices
+pub record BuildOutcome : Type 0 where
+  pub number : ℕ
+  pub runs : ℕ
+  pub starts : List ℕ
+  pub hops : List ℕ
+
+abbrev pub built : ℕ → ℕ → List ℕ → List ℕ → BuildOutcome
+built n runs starts hops = record { number = n; runs = runs; starts = starts; hops = hops }
+
+-- the same, read from the code's answer and the slices at exit
+abbrev pub buildGave : Built → List ℕ → List ℕ → BuildOutcome
+buildGave (Runs n) starts hops = built done n starts hops
+buildGave IllFormed starts hops = built illFormed 0 starts hops
+buildGave NoRoom starts hops = built noRoom 0 starts hops
+
+unfoldable pub buildChecks : ListLent → SlotsLent → List Check
+buildChecks l s =
+    check (not (wellFormed (l .count) (l .keys) (l .hops))) illFormed
+    ∷ check (ltb (runRoom (s .starts) (s .hops)) (length (runStarts (rowsLent l)))) noRoom
     ∷ []
 
-unfoldable pub buildNumber : ℕ → List ℕ → List ℕ → List ℕ → List ℕ → ℕ
-buildNumber count keys hops starts rhops = firstFault (buildChecks count keys hops starts rhops)
-
-unfoldable pub buildCount : ℕ → List ℕ → List ℕ → List ℕ → List ℕ → ℕ
-buildCount count keys hops starts rhops =
-    ifDone (buildNumber count keys hops starts rhops) (length (runStarts (rowsOf count keys hops)))
-
-unfoldable pub buildStarts : ℕ → List ℕ → List ℕ → List ℕ → List ℕ → List ℕ
-buildStarts count keys hops starts rhops =
-    ifAccepted (buildNumber count keys hops starts rhops) (written (runStarts (rowsOf count keys hops)) starts) starts
-
-unfoldable pub buildHops : ℕ → List ℕ → List ℕ → List ℕ → List ℕ → List ℕ
-buildHops count keys hops starts rhops =
-    ifAccepted (buildNumber count keys hops starts rhops) (written (runHops (rowsOf count keys hops)) rhops) rhops
+-- a build: the run table of the list into the front of the slices, or a refusal that leaves them
+unfoldable pub build : ListLent → SlotsLent → BuildOutcome
+build l s = outcome (buildChecks l s) (λ n. built n 0 (s .starts) (s .hops))
+    (built done (length (runStarts (rowsLent l))) (written (runStarts (rowsLent l)) (s .starts)) (written (runHops (rowsLent l)) (s .hops)))

@@ -3,6 +3,4 @@ pub mod Build
 pub mod Pair
 pub mod Bytes
 pub mod Lookup
-pub mod Probed
-pub mod Answers
-pub mod Sweep
+pub mod Inside

@@ -6,35 +6,46 @@ use mathlib.Core.List.{List, [], _∷_}
 use Prim.Native.Nat.{ℕ}
 use lib.ListN.{take}
 use lib.Dec.{ltb}
-use Rattle.ground.specs.Numbers.{Check, check, firstFault, illFormed, notItsRuns}
+use Rattle.ground.specs.Numbers.{Check, check, firstFault, done, illFormed, notItsRuns}
 use Rattle.ground.specs.Slots.{same}
-use Rattle.routes.specs.Row.{Row, rowsOf}
+use Rattle.routes.specs.Row.{Row, ListLent, rowsLent}
 use Rattle.routes.specs.WellFormed.{wellFormed}
-use Rattle.runs.specs.Table.{runStarts, runHops}
+use Rattle.runs.specs.declared.Paired.{Paired}
+use Rattle.runs.specs.declared.Paired.the-variants.{Agreed, IllFormed, NotItsRuns}
+use Rattle.runs.specs.Table.{RunsLent, runStarts, runHops}
 use Rattle.runs.specs.Build.{runRoom}
 
--- the list's count, keys and hops, and the table's count, starts and hops
+-- a list and a run table, as they are lent
 pub record Pair : Type 0 where
-  pub count : ℕ
-  pub keys : List ℕ
-  pub hops : List ℕ
-  pub runs : ℕ
-  pub starts : List ℕ
-  pub rhops : List ℕ
+  pub list : ListLent
+  pub table : RunsLent
+
+abbrev pub pair : ListLent → RunsLent → Pair
+pair l t = record { list = l; table = t }
 
 abbrev pub listOf : Pair → List Row
-listOf p = rowsOf (p .count) (p .keys) (p .hops)
+listOf p = rowsLent (p .list)
 
 unfoldable pub pairIll : Pair → Bool
-pairIll p = not (wellFormed (p .count) (p .keys) (p .hops)) || ltb (runRoom (p .starts) (p .rhops)) (p .runs)
+pairIll p =
+    not (wellFormed (p .list .count) (p .list .keys) (p .list .hops))
+    || ltb (runRoom (p .table .starts) (p .table .hops)) (p .table .count)
 
 -- the table is the run table of the list, number for number
 unfoldable pub itsRuns : Pair → Bool
-itsRuns p = same (take (p .runs) (p .starts)) (runStarts (listOf p)) && same (take (p .runs) (p .rhops)) (runHops (listOf p))
+itsRuns p =
+    same (take (p .table .count) (p .table .starts)) (runStarts (listOf p))
+    && same (take (p .table .count) (p .table .hops)) (runHops (listOf p))
 
--- the pair check: packing begins with it, and edits make it after 15
+-- the checks of a pair: packing begins with them, and edits make them after 15
 unfoldable pub pairChecks : Pair → List Check
 pairChecks p = check (pairIll p) illFormed ∷ check (not (itsRuns p)) notItsRuns ∷ []
 
-unfoldable pub pairNumber : Pair → ℕ
-pairNumber p = firstFault (pairChecks p)
+-- the number that the pair check returns, and the same read from the code's answer
+unfoldable pub pairCheck : Pair → ℕ
+pairCheck p = firstFault (pairChecks p)
+
+abbrev pub pairGave : Paired → ℕ
+pairGave Agreed = done
+pairGave IllFormed = illFormed
+pairGave NotItsRuns = notItsRuns

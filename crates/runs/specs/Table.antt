@@ -12,6 +12,15 @@ use Rattle.routes.specs.Row.{Row}
 use Rattle.routes.specs.Plain.{plain}
 pub mod Laws
 
+-- a run table as it is lent: a count with its two slices
+pub record RunsLent : Type 0 where
+  pub count : ℕ
+  pub starts : List ℕ
+  pub hops : List ℕ
+
+abbrev pub runsLent : ℕ → List ℕ → List ℕ → RunsLent
+runsLent count starts hops = record { count = count; starts = starts; hops = hops }
+
 -- what a run table of the answer f is: run i begins at start i and ends before start i + 1, the last one with the last address
 pub record RunTable (f : ℕ → ℕ) (starts hops : List ℕ) : Type 0 where
   pub paired : length hops ≡ length starts
@@ -20,7 +29,8 @@ pub record RunTable (f : ℕ → ℕ) (starts hops : List ℕ) : Type 0 where
   pub ascend : (i : ℕ) → i + 1 < length starts → getD starts i 0 < getD starts (i + 1) 0
   pub below : (i : ℕ) → i < length starts → getD starts i 0 < addresses
   pub differ : (i : ℕ) → i + 1 < length starts → getD hops i 0 ≡ getD hops (i + 1) 0 → ⊥
-  pub answers : (i a : ℕ) → i < length starts → getD starts i 0 ≤ a → a < addresses → (i + 1 < length starts → a < getD starts (i + 1) 0) → getD hops i 0 ≡ f a
+  pub answers : (i a : ℕ) → i < length starts → getD starts i 0 ≤ a → a < addresses
+      → (i + 1 < length starts → a < getD starts (i + 1) 0) → getD hops i 0 ≡ f a
 
 -- the starts of the run table of f: the addresses at which f turns
 pub startsOf : (ℕ → ℕ) → List ℕ

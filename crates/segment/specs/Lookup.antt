@@ -8,7 +8,8 @@ use Prim.Native.Nat.{ℕ, _+_, _-_, _/_, _%_, _^_}
 use lib.ListN.{length, getD}
 use lib.Dec.{leb, ltb, eqb}
 use lib.Count.{ones}
-use Rattle.ground.specs.Numbers.{Check, check, firstFault, ifDone, outsidePacked}
+use Rattle.ground.specs.Numbers.{Check, check, outcome, done, outsidePacked}
+use Rattle.routes.specs.Lookup.{LookupOutcome, lookedUp}
 
 -- the block of an address: its low 16 bits, divided by the size of a block
 unfoldable pub blockOf : ℕ → ℕ → ℕ
@@ -18,21 +19,29 @@ blockOf w a = a % 65536 / 2 ^ (16 - w)
 unfoldable pub onesTo : ℕ → ℕ → ℕ
 onesTo word b = ones (word / 2 ^ (15 - b % 16))
 
--- one more than the place: base + ones
-unfoldable pub pastPlace : ℕ → List ℕ → List ℕ → ℕ → ℕ
-pastPlace w words bases a =
-    getD bases (blockOf w a / 16) 0 + onesTo (getD words (blockOf w a / 16) 0) (blockOf w a)
+-- a packed segment as it is lent: its width and its three slices, whose lengths are the counts
+pub record SegmentLent : Type 0 where
+  pub width : ℕ
+  pub words : List ℕ
+  pub bases : List ℕ
+  pub hops : List ℕ
 
-unfoldable pub packedChecks : ℕ → List ℕ → List ℕ → List ℕ → ℕ → List Check
-packedChecks w words bases hops a =
-    check (ltb 16 w) outsidePacked
-    ∷ check (leb (length words) (blockOf w a / 16) || leb (length bases) (blockOf w a / 16)) outsidePacked
-    ∷ check (eqb (pastPlace w words bases a) 0 || ltb (length hops) (pastPlace w words bases a)) outsidePacked
+abbrev pub segmentLent : ℕ → List ℕ → List ℕ → List ℕ → SegmentLent
+segmentLent w words bases hops = record { width = w; words = words; bases = bases; hops = hops }
+
+-- one more than the place: base + ones
+unfoldable pub pastPlace : SegmentLent → ℕ → ℕ
+pastPlace s a =
+    getD (s .bases) (blockOf (s .width) a / 16) 0
+    + onesTo (getD (s .words) (blockOf (s .width) a / 16) 0) (blockOf (s .width) a)
+
+unfoldable pub packedChecks : SegmentLent → ℕ → List Check
+packedChecks s a =
+    check (ltb 16 (s .width)) outsidePacked
+    ∷ check (leb (length (s .words)) (blockOf (s .width) a / 16) || leb (length (s .bases)) (blockOf (s .width) a / 16)) outsidePacked
+    ∷ check (eqb (pastPlace s a) 0 || ltb (length (s .hops)) (pastPlace s a)) outsidePacked
     ∷ []
 
-unfoldable pub packedNumber : ℕ → List ℕ → List ℕ → List ℕ → ℕ → ℕ
-packedNumber w words bases hops a = firstFault (packedChecks w words bases hops a)
-
-unfoldable pub packedHop : ℕ → List ℕ → List ℕ → List ℕ → ℕ → ℕ
-packedHop w words bases hops a =
-    ifDone (packedNumber w words bases hops a) (getD hops (pastPlace w words bases a - 1) 0)
+-- packed lookup: it returns a number and a hop, as a lookup over a list does
+unfoldable pub packedLookup : SegmentLent → ℕ → LookupOutcome
+packedLookup s a = outcome (packedChecks s a) (λ n. lookedUp n 0) (lookedUp done (getD (s .hops) (pastPlace s a - 1) 0))

@@ -4,18 +4,28 @@ use mathlib.Core.List.{List, [], _∷_, _++_}
 use Prim.Native.Nat.{ℕ}
 use lib.ListN.{length}
 use lib.Dec.{ltb}
-use Rattle.ground.specs.Numbers.{Check, check, firstFault, ifDone, ifAccepted, noRoom}
+use Rattle.ground.specs.Numbers.{Check, check, outcome, done, noRoom}
 use Rattle.ground.specs.Slots.{written}
 use Rattle.runs.specs.Pair.{Pair, listOf, pairChecks}
 use Rattle.segment.specs.Packed.{width, wordsOf, basesOf, packedHopsOf}
 
 -- the three slices that a packing is lent for words, bases and hops
-pub record Lent : Type 0 where
+pub record PackLent : Type 0 where
   pub words : List ℕ
   pub bases : List ℕ
   pub hops : List ℕ
 
-unfoldable pub packChecks : ℕ → Pair → Lent → List Check
+-- what a packing returns and leaves: its number, the width, how many words (and bases) and how many hops, and the three slices
+pub record PackOutcome : Type 0 where
+  pub number : ℕ
+  pub width : ℕ
+  pub wordCount : ℕ
+  pub hopCount : ℕ
+  pub words : List ℕ
+  pub bases : List ℕ
+  pub hops : List ℕ
+
+unfoldable pub packChecks : ℕ → Pair → PackLent → List Check
 packChecks q p l =
     pairChecks p
     ++ check (ltb (length (l .words)) (length (wordsOf q (listOf p)))) noRoom
@@ -23,23 +33,21 @@ packChecks q p l =
     ∷ check (ltb (length (l .hops)) (length (packedHopsOf q (listOf p)))) noRoom
     ∷ []
 
-unfoldable pub packNumber : ℕ → Pair → Lent → ℕ
-packNumber q p l = firstFault (packChecks q p l)
+-- a refusal returns its number and 0 for the others, and leaves the slices
+abbrev pub packRefused : PackLent → ℕ → PackOutcome
+packRefused l n = record { number = n; width = 0; wordCount = 0; hopCount = 0; words = l .words; bases = l .bases; hops = l .hops }
 
--- the numbers returned: the width, how many words (and bases), how many hops
-unfoldable pub packWidth : ℕ → Pair → Lent → ℕ
-packWidth q p l = ifDone (packNumber q p l) (width q (listOf p))
-
-unfoldable pub packWordCount : ℕ → Pair → Lent → ℕ
-packWordCount q p l = ifDone (packNumber q p l) (length (wordsOf q (listOf p)))
-
-unfoldable pub packHopCount : ℕ → Pair → Lent → ℕ
-packHopCount q p l = ifDone (packNumber q p l) (length (packedHopsOf q (listOf p)))
-
--- the lent slices afterwards
-unfoldable pub packLeaves : ℕ → Pair → Lent → Lent
-packLeaves q p l = record {
-  words = ifAccepted (packNumber q p l) (written (wordsOf q (listOf p)) (l .words)) (l .words);
-  bases = ifAccepted (packNumber q p l) (written (basesOf q (listOf p)) (l .bases)) (l .bases);
-  hops = ifAccepted (packNumber q p l) (written (packedHopsOf q (listOf p)) (l .hops)) (l .hops);
+abbrev pub packDone : ℕ → Pair → PackLent → PackOutcome
+packDone q p l = record {
+  number = done;
+  width = width q (listOf p);
+  wordCount = length (wordsOf q (listOf p));
+  hopCount = length (packedHopsOf q (listOf p));
+  words = written (wordsOf q (listOf p)) (l .words);
+  bases = written (basesOf q (listOf p)) (l .bases);
+  hops = written (packedHopsOf q (listOf p)) (l .hops);
 }
+
+-- packing segment q
+unfoldable pub pack : ℕ → Pair → PackLent → PackOutcome
+pack q p l = outcome (packChecks q p l) (packRefused l) (packDone q p l)

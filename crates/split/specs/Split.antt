@@ -8,10 +8,10 @@ use Prim.Native.Nat.{ℕ}
 use lib.ListN.{length, take, drop}
 use lib.Dec.{ltb, eqb}
 use lib.Bits.{bitXor}
-use Rattle.ground.specs.Numbers.{Check, check, firstFault, ifDone, ifAccepted, illFormed, badSize, noDefault, noRoom}
+use Rattle.ground.specs.Numbers.{Check, check, outcome, done, illFormed, badSize, noDefault, noRoom}
 use Rattle.ground.specs.Slots.{written}
 use Rattle.cidr.specs.Prefix.{keyOf, covers}
-use Rattle.routes.specs.Row.{Row, row, rowsOf, those, listRoom, keysOf, hopsOf}
+use Rattle.routes.specs.Row.{Row, row, ListLent, rowsLent, those, listRoom, keysOf, hopsOf}
 use Rattle.routes.specs.WellFormed.{wellFormed}
 use Rattle.routes.specs.Plain.{longest, hopOf}
 use Rattle.routes.specs.Change.{listed}
@@ -35,30 +35,35 @@ firstHalf k rows = take k rows
 unfoldable pub secondHalf : ℕ → List Row → List Row
 secondHalf k rows = row defaultKey 0 ∷ map (relabelled (firstHalf k rows)) (drop k rows)
 
--- what a split returns and leaves in the slices of the second half
-unfoldable pub splitChecks : ℕ → ℕ → List ℕ → List ℕ → List ℕ → List ℕ → List Check
-splitChecks k count keys hops outKeys outHops =
-    check (not (wellFormed count keys hops)) illFormed
-    ∷ check (eqb k 0 || ltb count k) badSize
-    ∷ check (not (listed defaultKey (rowsOf count keys hops))) noDefault
-    ∷ check (ltb (listRoom outKeys outHops) (length (secondHalf k (rowsOf count keys hops)))) noRoom
+-- the two slices that a split is lent for the keys and the labels of the second half
+pub record SplitLent : Type 0 where
+  pub keys : List ℕ
+  pub labels : List ℕ
+
+abbrev pub splitLent : List ℕ → List ℕ → SplitLent
+splitLent keys labels = record { keys = keys; labels = labels }
+
+-- what a split returns and leaves: its number, the second half's count, and the two slices
+pub record SplitOutcome : Type 0 where
+  pub number : ℕ
+  pub count : ℕ
+  pub keys : List ℕ
+  pub labels : List ℕ
+
+abbrev pub splitInto : ℕ → ℕ → List ℕ → List ℕ → SplitOutcome
+splitInto n count keys labels = record { number = n; count = count; keys = keys; labels = labels }
+
+unfoldable pub splitChecks : ℕ → ListLent → SplitLent → List Check
+splitChecks k l out =
+    check (not (wellFormed (l .count) (l .keys) (l .hops))) illFormed
+    ∷ check (eqb k 0 || ltb (l .count) k) badSize
+    ∷ check (not (listed defaultKey (rowsLent l))) noDefault
+    ∷ check (ltb (listRoom (out .keys) (out .labels)) (length (secondHalf k (rowsLent l)))) noRoom
     ∷ []
 
-unfoldable pub splitNumber : ℕ → ℕ → List ℕ → List ℕ → List ℕ → List ℕ → ℕ
-splitNumber k count keys hops outKeys outHops = firstFault (splitChecks k count keys hops outKeys outHops)
-
-unfoldable pub splitCount : ℕ → ℕ → List ℕ → List ℕ → List ℕ → List ℕ → ℕ
-splitCount k count keys hops outKeys outHops =
-    ifDone (splitNumber k count keys hops outKeys outHops) (length (secondHalf k (rowsOf count keys hops)))
-
-unfoldable pub splitKeys : ℕ → ℕ → List ℕ → List ℕ → List ℕ → List ℕ → List ℕ
-splitKeys k count keys hops outKeys outHops =
-    ifAccepted (splitNumber k count keys hops outKeys outHops)
-    (written (keysOf (secondHalf k (rowsOf count keys hops))) outKeys)
-    outKeys
-
-unfoldable pub splitHops : ℕ → ℕ → List ℕ → List ℕ → List ℕ → List ℕ → List ℕ
-splitHops k count keys hops outKeys outHops =
-    ifAccepted (splitNumber k count keys hops outKeys outHops)
-    (written (hopsOf (secondHalf k (rowsOf count keys hops))) outHops)
-    outHops
+-- the split of a list of size k
+unfoldable pub split : ℕ → ListLent → SplitLent → SplitOutcome
+split k l out = outcome (splitChecks k l out) (λ n. splitInto n 0 (out .keys) (out .labels))
+    (splitInto done (length (secondHalf k (rowsLent l)))
+    (written (keysOf (secondHalf k (rowsLent l))) (out .keys))
+    (written (hopsOf (secondHalf k (rowsLent l))) (out .labels)))

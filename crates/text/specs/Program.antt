@@ -1,5 +1,5 @@
 -- "The program reads at most 16,384 bytes from standard input (more: the one line `feed too long`), with room for 1,024 rows." What it writes,
--- as a function of what it is given: the seven counts, a line each, and the run table of the imported list, a line a run.
+-- as a function of what it is given: the counts, a line each, and the run table of the imported list, a line a run.
 -- Assumes nothing.
 use mathlib.Core.Bool.{cond}
 use mathlib.Core.List.{List, [], _∷_, _++_}
@@ -10,7 +10,8 @@ use lib.ListN.{length}
 use lib.Dec.{ltb}
 use Rattle.feed.specs.Rows.{LF, space}
 use Rattle.feed.specs.declared.Counts.{Counts}
-use Rattle.feed.specs.Import.{rowNumbers, imported, countsOf}
+use Rattle.feed.specs.RowNumber.{NamedRow, rowNames, countsOf, rowsWith}
+use Rattle.feed.specs.Import.{rowNumbers, importedList}
 use Rattle.runs.specs.Table.{runStarts, runHops}
 use Rattle.text.specs.Text.{decimal, dottedText}
 
@@ -29,16 +30,14 @@ programRoom = 1024
 unfoldable pub lineOf : List ℕ → ℕ → List ℕ
 lineOf name n = name ++ space ∷ decimal n ++ LF ∷ []
 
--- the lines of the seven counts
+-- the lines of a table of row numbers: each name with the rows that have its number
+unfoldable pub nameLines : List NamedRow → Counts → List ℕ
+nameLines [] c = []
+nameLines (r ∷ rs) c = lineOf (bytes (r .name)) (rowsWith (r .number) c) ++ nameLines rs c
+
+-- the lines of the counts: all rows, and then each name of the table
 unfoldable pub countLines : Counts → List ℕ
-countLines c =
-    lineOf (bytes "rows") (c .rows)
-    ++ lineOf (bytes "taken") (c .taken)
-    ++ lineOf (bytes "shape") (c .shape)
-    ++ lineOf (bytes "range") (c .range)
-    ++ lineOf (bytes "hostbits") (c .hostbits)
-    ++ lineOf (bytes "repeat") (c .repeat)
-    ++ lineOf (bytes "noroom") (c .noroom)
+countLines c = lineOf (bytes "rows") (c .rows) ++ nameLines rowNames c
 
 -- the lines of a run table: each run's start and hop
 unfoldable pub runLines : List ℕ → List ℕ → List ℕ
@@ -51,4 +50,4 @@ programText feed =
     cond (ltb longestFeed (length feed))
     (bytes "feed too long\n")
     (countLines (countsOf (rowNumbers programRoom feed))
-    ++ runLines (runStarts (imported programRoom feed)) (runHops (imported programRoom feed)))
+    ++ runLines (runStarts (importedList programRoom feed)) (runHops (importedList programRoom feed)))

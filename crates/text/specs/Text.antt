@@ -6,10 +6,10 @@ use mathlib.Core.List.{List, [], _∷_, _++_}
 use Prim.Native.Nat.{ℕ, zero, suc, _+_, _/_, _%_}
 use lib.ListN.{length}
 use lib.Dec.{ltb}
-use Rattle.ground.specs.Numbers.{Check, check, firstFault, ifDone, ifAccepted, illFormed, noRoom}
+use Rattle.ground.specs.Numbers.{Check, check, outcome, done, illFormed, noRoom}
 use Rattle.ground.specs.Slots.{written}
 use Rattle.cidr.specs.Prefix.{network, lengthOf}
-use Rattle.routes.specs.Row.{Row, rowsOf}
+use Rattle.routes.specs.Row.{Row, ListLent, rowsLent}
 use Rattle.routes.specs.WellFormed.{wellFormed}
 use Rattle.feed.specs.Rows.{LF, dot, slash, space, digit0}
 
@@ -39,19 +39,22 @@ unfoldable pub textOf : List Row → List ℕ
 textOf [] = []
 textOf (r ∷ rs) = rowText r ++ textOf rs
 
--- what the list writer returns, its number and how many bytes it wrote, and what it leaves in the buffer
-unfoldable pub writeChecks : ℕ → List ℕ → List ℕ → List ℕ → List Check
-writeChecks count keys hops buffer =
-    check (not (wellFormed count keys hops)) illFormed
-    ∷ check (ltb (length buffer) (length (textOf (rowsOf count keys hops)))) noRoom
+-- what the list writer returns and leaves: its number, how many bytes it wrote, and the buffer
+pub record WriteOutcome : Type 0 where
+  pub number : ℕ
+  pub length : ℕ
+  pub buffer : List ℕ
+
+abbrev pub wrote : ℕ → ℕ → List ℕ → WriteOutcome
+wrote n len buffer = record { number = n; length = len; buffer = buffer }
+
+unfoldable pub writeChecks : ListLent → List ℕ → List Check
+writeChecks l buffer =
+    check (not (wellFormed (l .count) (l .keys) (l .hops))) illFormed
+    ∷ check (ltb (length buffer) (length (textOf (rowsLent l)))) noRoom
     ∷ []
 
-unfoldable pub writeNumber : ℕ → List ℕ → List ℕ → List ℕ → ℕ
-writeNumber count keys hops buffer = firstFault (writeChecks count keys hops buffer)
-
-unfoldable pub writeLength : ℕ → List ℕ → List ℕ → List ℕ → ℕ
-writeLength count keys hops buffer = ifDone (writeNumber count keys hops buffer) (length (textOf (rowsOf count keys hops)))
-
-unfoldable pub writeBuffer : ℕ → List ℕ → List ℕ → List ℕ → List ℕ
-writeBuffer count keys hops buffer =
-    ifAccepted (writeNumber count keys hops buffer) (written (textOf (rowsOf count keys hops)) buffer) buffer
+-- the list writer
+unfoldable pub write : ListLent → List ℕ → WriteOutcome
+write l buffer = outcome (writeChecks l buffer) (λ n. wrote n 0 buffer)
+    (wrote done (length (textOf (rowsLent l))) (written (textOf (rowsLent l)) buffer))

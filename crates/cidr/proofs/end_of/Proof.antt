@@ -8,19 +8,19 @@ use Rattle.cidr.proofs.Bits.{shifted-size, end-fits}
 network-requires : tie.Need-network-requires
 network-requires c κs = search needs
 
-host-bits-requires : tie.Need-host-bits-requires
-host-bits-requires c κs = search needs
+bits-beyond-requires : tie.Need-bits-beyond-requires
+bits-beyond-requires c κs = search needs
 
 shl-result : tie.Need-shl-result
 shl-result c = search needs
 
 add-result : tie.Need-add-result
 add-result c =
-    rw (c .before .network .ensures, c .host-bits .ensures)
+    rw (c .before .network .ensures, c .bits-beyond .ensures)
     record { fits = end-fits (c .before .before .args .key) (c .before .before .fits .key .fits) }
 
 returns : tie.Need-returns
-returns c = rw (c .before .network .ensures, c .host-bits .ensures, shifted-size (c .before .before .args .key))
+returns c = rw (c .before .network .ensures, c .bits-beyond .ensures, shifted-size (c .before .before .args .key))
 
 pub end-of-spec : {M : Type 1} → statement M
-end-of-spec = tie.close (tie.spec network-requires host-bits-requires shl-result add-result returns)
+end-of-spec = tie.close (tie.spec network-requires bits-beyond-requires shl-result add-result returns)

@@ -5,8 +5,8 @@ use Rattle.cidr.proofs.holds.Statement.{statement}
 use Rattle.cidr.proofs.holds.Tie as tie
 use Rattle.cidr.proofs.Bits.{matched}
 
-host-bits-requires : tie.Need-host-bits-requires
-host-bits-requires c κs = search needs
+bits-beyond-requires : tie.Need-bits-beyond-requires
+bits-beyond-requires c κs = search needs
 
 cleared-requires : tie.Need-cleared-requires
 cleared-requires c κs = search needs
@@ -16,8 +16,8 @@ network-requires c κs = search needs
 
 returns : tie.Need-returns
 returns c =
-    rw (c .network .ensures, c .before .cleared .ensures, c .before .before .host-bits .ensures)
+    rw (c .network .ensures, c .before .cleared .ensures, c .before .before .bits-beyond .ensures)
     (matched (c .before .before .before .args .key) (c .before .before .before .args .a))
 
 pub holds-spec : {M : Type 1} → statement M
-holds-spec = tie.close (tie.spec host-bits-requires cleared-requires network-requires returns)
+holds-spec = tie.close (tie.spec bits-beyond-requires cleared-requires network-requires returns)

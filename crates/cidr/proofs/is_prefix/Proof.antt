@@ -15,16 +15,16 @@ returns c = too-long (c .before .before .args .key) (omega arith)
 returns-2 : tie.Need-returns-2
 returns-2 c = outside (c .before .before .before .args .key) (omega arith) (omega arith)
 
-host-bits-requires : tie.Need-host-bits-requires
-host-bits-requires c κs = search needs
+bits-beyond-requires : tie.Need-bits-beyond-requires
+bits-beyond-requires c κs = search needs
 
 cleared-requires : tie.Need-cleared-requires
 cleared-requires c κs = search needs
 
 returns-3 : tie.Need-returns-3
 returns-3 c =
-    rw (c .cleared .ensures, c .before .host-bits .ensures, c .before .before .before .before .network .ensures)
+    rw (c .cleared .ensures, c .before .bits-beyond .ensures, c .before .before .before .before .network .ensures)
     (aligned (c .before .before .before .before .before .args .key) (omega arith) (omega arith))
 
 pub is-prefix-spec : {M : Type 1} → statement M
-is-prefix-spec = tie.close (tie.spec network-requires returns returns-2 host-bits-requires cleared-requires returns-3)
+is-prefix-spec = tie.close (tie.spec network-requires returns returns-2 bits-beyond-requires cleared-requires returns-3)

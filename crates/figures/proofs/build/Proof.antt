@@ -32,14 +32,23 @@ slice-aggregate-import-3 c = search needs
 import-requires : tie.Need-import-requires
 import-requires c κs = search needs
 
-enum-known-c : tie.Need-enum-known-c
-enum-known-c c = search needs
-
 enum-told : tie.Need-enum-told
 enum-told c = search needs
 
+enum-told-2 : tie.Need-enum-told-2
+enum-told-2 c = search needs
+
 returns : tie.Need-returns
 returns c = search needs
+
+cast-count : tie.Need-cast-count
+cast-count c = search needs
+
+mul-count : tie.Need-mul-count
+mul-count c = search needs
+
+element-copy-out-count : tie.Need-element-copy-out-count
+element-copy-out-count c = search needs
 
 slice-aggregate-built : tie.Need-slice-aggregate-built
 slice-aggregate-built c = search needs
@@ -78,9 +87,12 @@ build-spec =
     slice-aggregate-import-2
     slice-aggregate-import-3
     import-requires
-    enum-known-c
     enum-told
+    enum-told-2
     returns
+    cast-count
+    mul-count
+    element-copy-out-count
     slice-aggregate-built
     slice-aggregate-built-2
     array-borrow-prefix-starts

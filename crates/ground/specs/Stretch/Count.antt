@@ -61,6 +61,11 @@ counted-le p q lo n h =
     let never = counted-none (λ a. false) lo n (λ a ge lt. refl) in
     omega (arith, counted-or-le p q (λ a. false) lo n (λ a ge lt e. inl (h a ge lt e)))
 
+-- no more pass than there are
+pub counted-at-most : (p : ℕ → Bool) (lo n : ℕ) → counted p lo n ≤ n
+counted-at-most p lo n =
+    omega (arith, counted-le p (λ a. true) lo n (λ a ge lt e. refl), counted-all (λ a. true) lo n (λ a ge lt. refl))
+
 -- at most one number is x
 pub counted-point-le : (x lo n : ℕ) → counted (λ a. eqb a x) lo n ≤ 1
 counted-point-le x lo zero = simp (counted-is, picked-none) (omega arith)

@@ -36,3 +36,9 @@ picked-agree p q lo zero h = simp picked-none
 picked-agree p q lo (suc n) h =
     let rest = picked-agree p q (suc lo) n (λ a ge lt. h a (omega arith) (omega arith)) in
     simp picked-suc (rw (h lo (omega arith) (omega arith), rest))
+
+-- a stretch of which no number passes has nothing to pick
+pub picked-empty : (p : ℕ → Bool) (lo n : ℕ) → ((a : ℕ) → lo ≤ a → a < lo + n → p a ≡ false) → picked p lo n ≡ []
+picked-empty p lo zero h = picked-none p lo
+picked-empty p lo (suc n) h =
+    rw (picked-suc, h lo (omega arith) (omega arith)) (picked-empty p (suc lo) n (λ a ge lt. h a (omega arith) (omega arith)))

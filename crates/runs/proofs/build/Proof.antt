@@ -6,7 +6,8 @@ use lib.Seq.{length-take-le}
 use denote.Ref.{now}
 use Rattle.ground.proofs.Truth.{not-true, not-false}
 use Rattle.routes.specs.WellFormed.{wellFormed}
-use Rattle.runs.proofs.Whole.{list-test, in-keys, in-hops, slices-rows, slices-sorted, built-ill, built-rows}
+use Rattle.runs.proofs.WholeList.{list-test, in-keys, in-hops, slices-rows, slices-sorted}
+use Rattle.runs.proofs.TableOutcomes.{build-ill, build-well}
 use borrow.Author.Needs.{needs}
 use Rattle.runs.proofs.build.Statement.{statement}
 use Rattle.runs.proofs.build.Tie as tie
@@ -20,7 +21,7 @@ ok : (c : tie.Else1)
 ok c = list-test _ _ _ (c .before .list-ok .ensures) ∙ not-false _ (c .if1 .left)
 
 returns : tie.Need-returns
-returns c = built-ill (list-test _ _ _ (c .before .list-ok .ensures) ∙ not-true _ (c .if1 .taken))
+returns c = build-ill _ _ (list-test _ _ _ (c .before .list-ok .ensures) ∙ not-true _ (c .if1 .taken))
 
 slice-aggregate-build-rows : tie.Need-slice-aggregate-build-rows
 slice-aggregate-build-rows c = sym (length-take-le _ _ (in-keys _ _ _ (ok (c .before))))
@@ -40,7 +41,7 @@ same-length-2 c = search needs
 returns-2 : tie.Need-returns-2
 returns-2 c =
     let fine = ok (c .before .before .before .before .before .before .before .before .before) in
-    built-rows fine (rw (slices-rows _ _ _ fine) at (c .before .before .before .before .build-rows .ensures))
+    rw (slices-rows _ _ _ fine) at (c .before .before .before .before .build-rows .ensures) ∙ sym (build-well _ _ fine)
 
 pub build-spec : {M : Type 1} → statement M
 build-spec =

@@ -9,8 +9,8 @@ use denote.Ref.{now}
 use Rattle.ground.proofs.Truth.{not-true, not-false}
 use Rattle.runs.specs.Table.{runStarts}
 use Rattle.runs.specs.Build.{runRoom}
-use Rattle.runs.specs.Sweep.{allRows}
-use Rattle.runs.proofs.Whole.{rows-no-room, room-for-runs, rows-runs}
+use Rattle.sweep.specs.Sweep.{allRows}
+use Rattle.runs.proofs.WholeList.{rows-no-room, room-for-runs, rows-runs}
 use borrow.Author.Needs.{needs}
 use Rattle.runs.proofs.build_rows.Statement.{statement}
 use Rattle.runs.proofs.build_rows.Tie as tie

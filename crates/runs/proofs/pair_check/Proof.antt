@@ -10,8 +10,8 @@ use denote.Ref.{now}
 use Rattle.ground.proofs.Truth.{not-true, not-false}
 use Rattle.routes.specs.WellFormed.{wellFormed}
 use Rattle.runs.specs.Build.{runRoom}
-use Rattle.runs.proofs.Whole.{list-test, in-keys, in-hops, slices-sorted, in-starts, in-rhops, runs-paired}
-use Rattle.runs.proofs.Whole.{pair-ill-list, pair-ill-runs, its, pair-agreed, pair-differs}
+use Rattle.runs.proofs.WholeList.{list-test, in-keys, in-hops, slices-sorted, in-starts, in-rhops, runs-paired}
+use Rattle.runs.proofs.TableOutcomes.{pair-ill-list, pair-ill-runs, its, pair-agreed, pair-differs}
 use borrow.Author.Needs.{needs}
 use Rattle.runs.proofs.pair_check.Statement.{statement}
 use Rattle.runs.proofs.pair_check.Tie as tie

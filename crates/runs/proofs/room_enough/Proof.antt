@@ -1,7 +1,7 @@
 -- `runs::room_enough` meets its contract: a list of n rows has at most 2 n + 1 runs; where that may be too many, they are counted.
 -- Assumes nothing.
 use borrow.Author.Needs.{needs}
-use Rattle.runs.proofs.Whole.{room-twice, room-counted}
+use Rattle.runs.proofs.WholeList.{room-twice, room-counted}
 use Rattle.runs.proofs.room_enough.Statement.{statement}
 use Rattle.runs.proofs.room_enough.Tie as tie
 

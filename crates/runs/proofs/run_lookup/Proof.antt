@@ -3,8 +3,8 @@
 -- Assumes nothing.
 use native.Mathlib.Omega.{arith}
 use lib.ListN.{getD}
-use Rattle.ground.proofs.Halving.{narrowed-closer, Probing, probing-start, probing-narrowed, probing-bounds, probing-probes, probing-end}
-use Rattle.runs.proofs.Answers.{no-runs, beyond-slices, runs-accepted, refused, found}
+use Rattle.halving.proofs.Halving.{narrowed-closer, Probing, probing-start, probing-narrowed, probing-bounds, probing-probes, probing-end}
+use Rattle.runs.proofs.LookupOutcomes.{no-runs, beyond-slices, runs-accepted, refused, found}
 use Rattle.runs.proofs.run_lookup.Statement.{statement}
 use Rattle.runs.proofs.run_lookup.Tie as tie
 
@@ -15,13 +15,13 @@ abbrev μ-loop : tie.MeasureT-loop
 μ-loop n starts hops a s₀ probes₀ s probes = s .apart
 
 returns : tie.Need-returns Inv-loop μ-loop
-returns c = refused _ _ _ _ (no-runs _ _ _ (omega arith))
+returns c = refused _ _ (no-runs _ (omega arith))
 
 returns-2 : tie.Need-returns-2 Inv-loop μ-loop
-returns-2 c = refused _ _ _ _ (beyond-slices _ _ _ (omega arith))
+returns-2 c = refused _ _ (beyond-slices _ (omega arith))
 
 returns-3 : tie.Need-returns-3 Inv-loop μ-loop
-returns-3 c = refused _ _ _ _ (beyond-slices _ _ _ (omega arith))
+returns-3 c = refused _ _ (beyond-slices _ (omega arith))
 
 loop-holds : tie.Need-loop-holds Inv-loop μ-loop
 loop-holds c = probing-start _ _ _ (omega arith)
@@ -51,7 +51,7 @@ shared-slice-read-t16 : tie.Need-shared-slice-read-t16 Inv-loop μ-loop
 shared-slice-read-t16 c = omega (arith, probing-bounds (c .before .before .before .loop .inv))
 
 returns-4 : tie.Need-returns-4 Inv-loop μ-loop
-returns-4 c = found _ _ _ _ (runs-accepted _ _ _ (omega arith) (omega arith)) (probing-end (c .before .before .before .loop .inv) (omega arith))
+returns-4 c = found _ _ (runs-accepted _ (omega arith) (omega arith)) (probing-end (c .before .before .before .loop .inv) (omega arith))
 
 pub run-lookup-spec : {M : Type 1} → statement M
 run-lookup-spec =

@@ -1,0 +1,214 @@
+-- The laws of `halving`, over any function from places to starts, in no order: the loop ends by itself within n turns; its probes are never
+-- more than the least p with 2^p at least n; it ends at a place below n, whose start is at most the address if the first start is; and
+-- the start after that one is above the address. `Halfway` is what code that halves keeps true from turn to turn.
+-- Assumes nothing.
+use mathlib.Core.Path.{_≡_, refl, sym, ap, _∙_}
+use mathlib.Core.Bool.{Bool, true, false, cond}
+use Prim.Native.Nat.{ℕ, zero, suc, _+_, _-_, _/_, _^_, _≤_, _<_, zero-le}
+use native.Mathlib.Nat.{le-refl, zero-add, add-zero, add-suc, suc-add}
+use native.Mathlib.Numerals.{add-one}
+use native.Mathlib.Omega.{arith}
+use lib.Dec.{leb, ltb}
+use borrow.Author.Tests.{leb-true, leb-false, le-leb, lt-leb, ltb-true, ltb-false}
+use Rattle.halving.specs.Halving.{probed, halves, halving}
+use Rattle.halving.specs.Narrowed.{Narrowed}
+
+-- how the loop goes from low and high on: it ends at the place `found` after `probes` more probes
+pub data Ends (at : ℕ → ℕ) (a : ℕ) : ℕ → ℕ → ℕ → ℕ → Type 0 where
+  near : {low high : ℕ} → high - low ≤ 1 → Ends at a low high low 0
+  up : {low high found probes : ℕ} → 1 < high - low → at ((low + high) / 2) ≤ a
+      → Ends at a ((low + high) / 2) high found probes → Ends at a low high found (suc probes)
+  down : {low high found probes : ℕ} → 1 < high - low → a < at ((low + high) / 2)
+      → Ends at a low ((low + high) / 2) found probes → Ends at a low high found (suc probes)
+
+module _ (at : ℕ → ℕ) (a : ℕ) where
+  pub halves-near : (turns low high : ℕ) → high - low ≤ 1 → halves turns at a low high ≡ record { low = low; probes = 0 }
+  unfolding halves
+  halves-near zero low high n = refl
+  halves-near (suc turns) low high n = rw (le-leb (high - low) 1 n, halves)
+
+  pub halves-up : (turns low high : ℕ) → 1 < high - low → at ((low + high) / 2) ≤ a
+      → halves (suc turns) at a low high ≡ probed (halves turns at a ((low + high) / 2) high)
+  unfolding halves
+  halves-up turns low high f l = rw (lt-leb (high - low) 1 f, halves, le-leb (at ((low + high) / 2)) a l)
+
+  pub halves-down : (turns low high : ℕ) → 1 < high - low → a < at ((low + high) / 2)
+      → halves (suc turns) at a low high ≡ probed (halves turns at a low ((low + high) / 2))
+  unfolding halves
+  halves-down turns low high f l = rw (lt-leb (high - low) 1 f, halves, lt-leb (at ((low + high) / 2)) a l)
+
+-- the loop with these turns ends by itself
+abbrev pub EndsIn : (ℕ → ℕ) → ℕ → ℕ → ℕ → ℕ → Type 0
+EndsIn at a turns low high = Ends at a low high ((halves turns at a low high) .low) ((halves turns at a low high) .probes)
+
+-- one turn less than high and low are apart is enough
+pub halves-ends : (at : ℕ → ℕ) (a turns low high : ℕ) → high - low ≤ suc turns → EndsIn at a turns low high
+halves-ends at a zero low high e = rw (halves-near at a zero low high e) (near e)
+halves-ends at a (suc turns) low high e =
+    go (leb (high - low) 1) refl (leb (at ((low + high) / 2)) a) refl (halves-ends at a turns ((low + high) / 2) high (omega arith))
+    (halves-ends at a turns low ((low + high) / 2) (omega arith))
+  where
+    go : (b : Bool) → leb (high - low) 1 ≡ b → (c : Bool) → leb (at ((low + high) / 2)) a ≡ c
+        → EndsIn at a turns ((low + high) / 2) high → EndsIn at a turns low ((low + high) / 2) → EndsIn at a (suc turns) low high
+    go true b c d u w = let n = leb-true (high - low) 1 b in rw (halves-near at a (suc turns) low high n) (near n)
+    go false b true d u w =
+        let f = leb-false (high - low) 1 b in
+        let l = leb-true (at ((low + high) / 2)) a d in
+        rw (halves-up at a turns low high f l) (up f l u)
+    go false b false d u w =
+        let f = leb-false (high - low) 1 b in
+        let l = leb-false (at ((low + high) / 2)) a d in
+        rw (halves-down at a turns low high f l) (down f l w)
+
+pub halving-ends : (at : ℕ → ℕ) (n a : ℕ) → Ends at a 0 n ((halving at n a) .low) ((halving at n a) .probes)
+unfolding halving
+halving-ends at n a = halves-ends at a n 0 n (omega arith)
+
+module _ {at : ℕ → ℕ} {a : ℕ} where
+  -- with enough turns the loop ends as it goes
+  pub ends-halves : {low high found probes : ℕ} → Ends at a low high found probes → (turns : ℕ) → high - low ≤ suc turns
+      → halves turns at a low high ≡ record { low = found; probes = probes }
+  ends-halves (near {low} {high} n) turns e = halves-near at a turns low high n
+  ends-halves (up f l r) zero e = absurd (omega arith)
+  ends-halves (up {low} {high} f l r) (suc turns) e = halves-up at a turns low high f l ∙ ap probed (ends-halves r turns (omega arith))
+  ends-halves (down f l r) zero e = absurd (omega arith)
+  ends-halves (down {low} {high} f l r) (suc turns) e = halves-down at a turns low high f l ∙ ap probed (ends-halves r turns (omega arith))
+
+  -- a distance of at most 2^p is halved at most p times
+  ends-probes : {low high found probes : ℕ} → Ends at a low high found probes → (p : ℕ) → high - low ≤ 2 ^ p → probes ≤ p
+  ends-probes (near n) p h = zero-le
+  ends-probes (up f l r) zero h = absurd (omega arith)
+  ends-probes (up f l r) (suc p) h = omega (arith, ends-probes r p (omega arith))
+  ends-probes (down f l r) zero h = absurd (omega arith)
+  ends-probes (down f l r) (suc p) h = omega (arith, ends-probes r p (omega arith))
+
+  ends-below : {low high found probes : ℕ} → Ends at a low high found probes → low < high → found < high
+  ends-below (near n) h = h
+  ends-below (up f l r) h = ends-below r (omega arith)
+  ends-below (down f l r) h = omega (arith, ends-below r (omega arith))
+
+  ends-at-most : {low high found probes : ℕ} → Ends at a low high found probes → at low ≤ a → at found ≤ a
+  ends-at-most (near n) h = h
+  ends-at-most (up f l r) h = ends-at-most r l
+  ends-at-most (down f l r) h = ends-at-most r h
+
+  ends-next : {low high found probes : ℕ} → Ends at a low high found probes → low < high → (n : ℕ) → high ≤ n → (high < n → a < at high)
+      → found + 1 < n → a < at (found + 1)
+  ends-next (near {low} {high} e) h n hn top l = let same : low + 1 ≡ high = omega arith in rw same (top (rw same at l))
+  ends-next (up f l r) h n hn top k = ends-next r (omega arith) n hn top k
+  ends-next (down f l r) h n hn top k = ends-next r (omega arith) n (omega arith) (λ m. l) k
+
+  -- the loop sees no place from high on
+  ends-agree : (other : ℕ → ℕ) {low high found probes : ℕ} → Ends at a low high found probes → ((i : ℕ) → i < high → at i ≡ other i)
+      → Ends other a low high found probes
+  ends-agree other (near n) same = near n
+  ends-agree other (up {low} {high} f l r) same = up f (rw (same ((low + high) / 2) (omega arith)) at l) (ends-agree other r same)
+  ends-agree other (down {low} {high} f l r) same =
+      down f (rw (same ((low + high) / 2) (omega arith)) at l) (ends-agree other r (λ i h. same i (omega arith)))
+
+module _ (at : ℕ → ℕ) (n a : ℕ) where
+  pub probes-at-most : (p : ℕ) → n ≤ 2 ^ p → (halving at n a) .probes ≤ p
+  probes-at-most p h = ends-probes (halving-ends at n a) p (omega arith)
+
+  pub low-at-most : at 0 ≤ a → at ((halving at n a) .low) ≤ a
+  low-at-most = ends-at-most (halving-ends at n a)
+
+  pub low-below : 1 ≤ n → (halving at n a) .low < n
+  low-below = ends-below (halving-ends at n a)
+
+  pub next-above : 1 ≤ n → (halving at n a) .low + 1 < n → a < at ((halving at n a) .low + 1)
+  next-above h = ends-next (halving-ends at n a) h n (le-refl n) (λ l. absurd (omega arith))
+
+  pub halving-agrees : (other : ℕ → ℕ) → ((i : ℕ) → i < n → at i ≡ other i) → halving at n a ≡ halving other n a
+  unfolding halving
+  halving-agrees other same = sym (ends-halves (ends-agree other (halving-ends at n a) same) n (omega arith))
+
+-- what code that halves keeps true after `probes` probes: however the loop goes from low and high on, halving ends there
+pub record Halfway (at : ℕ → ℕ) (n a low high probes : ℕ) : Type 0 where
+  pub apart : low < high
+  pub within : high ≤ n
+  pub goes-on : {found more : ℕ} → Ends at a low high found more → halving at n a ≡ record { low = found; probes = probes + more }
+
+pub halfway-start : (at : ℕ → ℕ) (n a : ℕ) → 1 ≤ n → Halfway at n a 0 n 0
+unfolding halving
+halfway-start at n a h = record {
+  apart = h;
+  within = le-refl n;
+  goes-on = λ r. rw zero-add (ends-halves r n (omega arith));
+}
+
+module _ {at : ℕ → ℕ} {n a low high probes : ℕ} (s : Halfway at n a low high probes) where
+  pub halfway-end : high - low ≤ 1 → halving at n a ≡ record { low = low; probes = probes }
+  halfway-end h = s .goes-on (near h) ∙ rw add-zero
+
+  -- the probes counted so far are at most halving's
+  pub halfway-probes : (p : ℕ) → n ≤ 2 ^ p → probes ≤ p
+  halfway-probes p h =
+      let all = s .goes-on (halves-ends at a (high - low) low high (omega arith)) in
+      omega (arith, rw all at (probes-at-most at n a p h))
+
+  module _ (mid : ℕ) (half : mid ≡ (low + high) / 2) (far : 1 < high - low) where
+    pub halfway-up : at mid ≤ a → Halfway at n a mid high (probes + 1)
+    halfway-up l = record {
+      apart = omega arith;
+      within = s .within;
+      goes-on = λ r. s .goes-on (up far (rw half at l) (rw half at r)) ∙ simp (add-one, suc-add, add-suc);
+    }
+
+    pub halfway-down : a < at mid → Halfway at n a low mid (probes + 1)
+    halfway-down l = record {
+      apart = omega arith;
+      within = omega arith;
+      goes-on = λ r. s .goes-on (down far (rw half at l) (rw half at r)) ∙ simp (add-one, suc-add, add-suc);
+    }
+
+-- high and low come closer
+pub narrowed-closer : {above : Bool} {place apart place′ apart′ : ℕ} → Narrowed above place apart place′ apart′ → 1 < apart → apart′ < apart
+narrowed-closer {above = true} t far = omega (arith, t .new-apart)
+narrowed-closer {above = false} t far = omega (arith, t .new-apart)
+
+-- what code that carries the place to probe next keeps true: it is halfway, and the place is (low + high) div 2
+pub record Probing (at : ℕ → ℕ) (n a place apart probes : ℕ) : Type 0 where
+  pub low : ℕ
+  pub next : place ≡ low + apart / 2
+  pub halfway : Halfway at n a low (low + apart) probes
+
+pub probing-start : (at : ℕ → ℕ) (n a : ℕ) → 1 ≤ n → Probing at n a (n / 2) n 0
+probing-start at n a h = record { low = 0; next = sym (zero-add _); halfway = rw zero-add (halfway-start at n a h) }
+
+module _ {at : ℕ → ℕ} {n a place apart probes : ℕ} (s : Probing at n a place apart probes) where
+  -- low and high are places
+  pub probing-bounds : (apart / 2 ≤ place) × (place + (apart - apart / 2) ≤ n) × (0 < apart)
+  probing-bounds = (omega (arith, s .next), omega (arith, s .next, s .halfway .within), omega (arith, s .halfway .apart))
+
+  pub probing-end : apart ≤ 1 → halving at n a ≡ record { low = place; probes = probes }
+  probing-end close =
+      let same : place ≡ s .low = omega (arith, s .next) in
+      rw same (halfway-end (s .halfway) (omega arith))
+
+  pub probing-probes : (p : ℕ) → n ≤ 2 ^ p → probes ≤ p
+  probing-probes = halfway-probes (s .halfway)
+
+  pub probing-narrowed : {place′ apart′ : ℕ} → 1 < apart → Narrowed (ltb a (at place)) place apart place′ apart′
+      → Probing at n a place′ apart′ (probes + 1)
+  probing-narrowed {place′} {apart′} far t = go (ltb a (at place)) refl (t .new-place) (t .new-apart)
+    where
+      mid : place ≡ (s .low + (s .low + apart)) / 2
+      mid = omega (arith, s .next)
+
+      go : (b : Bool) → ltb a (at place) ≡ b → place′ ≡ cond b (place - apart / 2 + apart / 2 / 2) (place + (apart - apart / 2) / 2)
+          → apart′ ≡ cond b (apart / 2) (apart - apart / 2) → Probing at n a place′ apart′ (probes + 1)
+      go true e p k =
+          let high : s .low + apart′ ≡ place = omega (arith, s .next) in
+          record {
+            low = s .low;
+            next = omega (arith, s .next);
+            halfway = rw high (halfway-down (s .halfway) place mid (omega arith) (ltb-true a (at place) e));
+          }
+      go false e p k =
+          let high : place + apart′ ≡ s .low + apart = omega (arith, s .next) in
+          record {
+            low = place;
+            next = omega arith;
+            halfway = rw high (halfway-up (s .halfway) place mid (omega arith) (ltb-false a (at place) e));
+          }

@@ -1,0 +1,78 @@
+-- What a build and a pair check give, case by case, and that an outcome is one answer's with its slots.
+-- Assumes nothing.
+use mathlib.Core.Path.{_≡_, refl, sym, ap, _∙_}
+use mathlib.Core.Bool.{Bool, true, false, not, cond}
+use mathlib.Core.List.{List}
+use Prim.Native.Nat.{ℕ, _≤_, _<_}
+use native.Mathlib.Omega.{arith}
+use lib.ListN.{length, take}
+use lib.Dec.{ltb}
+use borrow.Author.Tests.{lt-ltb, le-ltb}
+use Rattle.ground.specs.Numbers.{firstFault, outcome, done, illFormed, noRoom, notItsRuns}
+use Rattle.ground.specs.Slots.{written}
+use Rattle.ground.proofs.Numbers.{outcome-later, outcome-last}
+use Rattle.routes.specs.Row.{Row, ListLent, rowsLent}
+use Rattle.routes.specs.WellFormed.{wellFormed}
+use Rattle.runs.specs.declared.Built.{Built}
+use Rattle.runs.specs.declared.Built.the-variants as B
+use Rattle.runs.specs.declared.Paired.{Paired}
+use Rattle.runs.specs.declared.Paired.the-variants as P
+use Rattle.runs.specs.Table.{runStarts, runHops}
+use Rattle.runs.specs.Build.{SlotsLent, BuildOutcome, built, buildGave, buildChecks, build, runRoom}
+use Rattle.runs.specs.Pair.{Pair, pairIll, itsRuns, pairChecks, pairCheck, pairGave}
+use Rattle.runs.specs.Inside.Rows.{buildRows}
+use Rattle.sweep.specs.Sweep.{allRows, answer, areRuns}
+use Rattle.runs.proofs.WholeList.{slices-rows, slices-sorted, whole-starts, whole-hops}
+
+-- A build goes by the list test, and then by the room.
+module _ (l : ListLent) (s : SlotsLent) where
+  pub build-ill : wellFormed (l .count) (l .keys) (l .hops) ≡ false → built illFormed 0 (s .starts) (s .hops) ≡ build l s
+  unfolding build buildChecks firstFault outcome
+  build-ill e = rw e
+
+  pub build-well : wellFormed (l .count) (l .keys) (l .hops) ≡ true → build l s ≡ buildRows (rowsLent l) s
+  unfolding build buildChecks buildRows
+  build-well e = outcome-later illFormed _ _ _ (ap not e) ∙ outcome-last _ 12 _ _
+
+-- where a build of rows is accepted, this is what it left
+pub rows-done : (rows : List Row) (s : SlotsLent) {n : ℕ} {starts hops : List ℕ} → built done n starts hops ≡ buildRows rows s
+    → built done n starts hops ≡ built done (length (runStarts rows)) (written (runStarts rows) (s .starts)) (written (runHops rows) (s .hops))
+unfolding buildRows
+rows-done rows s {n} {starts} {hops} e = go (ltb (runRoom (s .starts) (s .hops)) (length (runStarts rows))) e
+  where
+    left : BuildOutcome
+    left = built done (length (runStarts rows)) (written (runStarts rows) (s .starts)) (written (runHops rows) (s .hops))
+
+    go : (full : Bool) → built done n starts hops ≡ cond full (built noRoom 0 (s .starts) (s .hops)) left → built done n starts hops ≡ left
+    go true q = absurd (omega (arith, ap (λ (o : BuildOutcome). o .number) q))
+    go false q = q
+
+-- The pair check goes by the list test, then by the count of runs, then by the runs themselves.
+module _ (p : Pair) where
+  pub pair-ill-list : wellFormed (p .list .count) (p .list .keys) (p .list .hops) ≡ false → illFormed ≡ pairCheck p
+  unfolding pairCheck pairChecks pairIll firstFault
+  pair-ill-list e = rw e
+
+  module _ (e : wellFormed (p .list .count) (p .list .keys) (p .list .hops) ≡ true) where
+    pub pair-ill-runs : runRoom (p .table .starts) (p .table .hops) < p .table .count → illFormed ≡ pairCheck p
+    unfolding pairCheck pairChecks pairIll firstFault
+    pair-ill-runs l = rw (e, lt-ltb (runRoom (p .table .starts) (p .table .hops)) (p .table .count) l)
+
+    module _ (l : p .table .count ≤ runRoom (p .table .starts) (p .table .hops)) where
+      pub its : {b : Bool}
+          → b
+          ≡ areRuns (answer 0 (allRows (take (p .list .count) (p .list .keys)) (take (p .list .count) (p .list .hops)))) 0 4294967296
+          (take (p .table .count) (p .table .starts)) (take (p .table .count) (p .table .hops))
+          → itsRuns p ≡ b
+      unfolding itsRuns areRuns
+      its q =
+          let s = slices-sorted (p .list .count) (p .list .keys) (p .list .hops) e in
+          sym (q ∙ rw (whole-hops s, whole-starts s, slices-rows (p .list .count) (p .list .keys) (p .list .hops) e))
+
+      pub pair-agreed : itsRuns p ≡ true → done ≡ pairCheck p
+      unfolding pairCheck pairChecks pairIll firstFault
+      pair-agreed q = rw (e, le-ltb (runRoom (p .table .starts) (p .table .hops)) (p .table .count) l, q)
+
+      pub pair-differs : itsRuns p ≡ false → notItsRuns ≡ pairCheck p
+      unfolding pairCheck pairChecks pairIll firstFault
+      pair-differs q = rw (e, le-ltb (runRoom (p .table .starts) (p .table .hops)) (p .table .count) l, q)

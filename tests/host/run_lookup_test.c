@@ -1,0 +1,277 @@
+/* Run lookup against two lookups of its own: halving as a loop over low and high, for every table, and a walk over the runs for tables
+   that are well-formed. Inputs come from a fixed seed. What is counted is the groups below. */
+#include "testing.h"
+#include "whelkhollow.h"
+
+#define MOST 1000000u
+#define LAST 0xffffffffu
+#define REFUSED (65536u * WHELK_ILL_FORMED)
+
+static uint32_t starts[MOST];
+static uint16_t hops[MOST];
+/* run bytes, with room to let them begin at any byte of a word */
+static uint8_t room[6 * MOST + 8];
+
+static unsigned long lookups, before, wrong;
+
+static uint64_t state = 20260715;
+
+static uint32_t any(void)
+{
+    state ^= state << 13;
+    state ^= state >> 7;
+    state ^= state << 17;
+    return (uint32_t)(state >> 32);
+}
+
+static uint32_t below(uint32_t n)
+{
+    return any() % n;
+}
+
+/* halving, by rules 7.3 and 7.4: the hop at low, and the number of probes */
+static uint16_t halved(size_t n, uint32_t address, unsigned *probes)
+{
+    size_t low = 0, high = n;
+    *probes = 0;
+    while (high - low > 1) {
+        size_t place = (low + high) / 2;
+        *probes += 1;
+        if (starts[place] <= address)
+            low = place;
+        else
+            high = place;
+    }
+    return hops[low];
+}
+
+/* run i begins at start i and ends before start i + 1 */
+static uint16_t walked(size_t n, uint32_t address)
+{
+    size_t i = 0;
+    while (i + 1 < n && starts[i + 1] <= address)
+        i++;
+    return hops[i];
+}
+
+static void same(uint64_t got, uint64_t want, size_t n, uint32_t address)
+{
+    lookups++;
+    if (got == want)
+        return;
+    if (wrong++ < 5)
+        printf("  %lu runs, address %lu: %llu, not %llu\n", (unsigned long)n, (unsigned long)address, (unsigned long long)got,
+               (unsigned long long)want);
+}
+
+/* run bytes, by rule 7.7 */
+static uint8_t *bytes_of(size_t n)
+{
+    uint8_t *bytes = room + n % 8;
+    size_t i;
+    for (i = 0; i < n; i++) {
+        bytes[6 * i] = (uint8_t)(starts[i] >> 24);
+        bytes[6 * i + 1] = (uint8_t)(starts[i] >> 16);
+        bytes[6 * i + 2] = (uint8_t)(starts[i] >> 8);
+        bytes[6 * i + 3] = (uint8_t)starts[i];
+        bytes[6 * i + 4] = (uint8_t)(hops[i] >> 8);
+        bytes[6 * i + 5] = (uint8_t)hops[i];
+    }
+    return bytes;
+}
+
+/* one address, in slices and in run bytes */
+static void at(const uint8_t *bytes, size_t n, uint32_t address)
+{
+    unsigned probes, p = 0;
+    uint16_t hop = halved(n, address, &probes);
+    same(whelk_run_lookup(bytes, 6 * n, address), hop, n, address);
+    same(whelk_run_lookup_slices(n, starts, MOST, hops, MOST, address), (uint64_t)probes << 32 | hop, n, address);
+    while (((size_t)1 << p) < n)
+        p++;
+    if (probes > p)
+        wrong++;
+}
+
+/* the table's edges, and then random addresses */
+static void over(size_t n, size_t randoms)
+{
+    const uint8_t *bytes = bytes_of(n);
+    size_t i;
+    at(bytes, n, 0);
+    at(bytes, n, LAST);
+    for (i = 0; i < n; i++) {
+        at(bytes, n, starts[i]);
+        at(bytes, n, starts[i] - 1);
+        at(bytes, n, starts[i] + 1);
+    }
+    for (i = 0; i < randoms; i++)
+        at(bytes, n, any());
+}
+
+/* a well-formed table: the first start is 0, starts ascend strictly, neighbouring hops differ */
+static void well_formed(size_t n)
+{
+    uint32_t gap = LAST / (uint32_t)n;
+    size_t i;
+    for (i = 0; i < n; i++) {
+        starts[i] = i == 0 ? 0 : starts[i - 1] + 1 + below(gap);
+        hops[i] = (uint16_t)any();
+        if (i > 0 && hops[i] == hops[i - 1])
+            hops[i] ^= 1;
+    }
+}
+
+static void group(const char *name)
+{
+    printf("%s: %lu lookups\n", name, lookups - before);
+    check(name, wrong == 0);
+    before = lookups;
+    wrong = 0;
+}
+
+/* the run table of list A */
+static void figure(void)
+{
+    const uint8_t *bytes;
+    int i;
+    for (i = 0; i < 10; i++) {
+        starts[i] = starts_of_a[i];
+        hops[i] = hops_of_a[i];
+    }
+    bytes = bytes_of(10);
+    same(whelk_run_lookup(bytes, 60, 0xc81b70aa), 2, 10, 0xc81b70aa);
+    same(whelk_run_lookup(bytes, 60, 0xc81c0000), 0, 10, 0xc81c0000);
+    same(whelk_run_lookup(bytes, 60, 0xc817ffff), 0, 10, 0xc817ffff);
+    same(whelk_run_lookup(bytes, 60, 0xc819ffff), 1, 10, 0xc819ffff);
+    over(10, 1000);
+}
+
+static void lengths(void)
+{
+    size_t length;
+    const uint8_t *bytes;
+    well_formed(1000);
+    bytes = bytes_of(1000);
+    for (length = 0; length <= 6000; length++) {
+        uint32_t address = any();
+        unsigned probes;
+        if (length == 0 || length % 6 != 0)
+            same(whelk_run_lookup(bytes, length, address), REFUSED, length / 6, address);
+        else
+            same(whelk_run_lookup(bytes, length, address), halved(length / 6, address, &probes), length / 6, address);
+    }
+}
+
+static void counts(void)
+{
+    size_t n;
+    well_formed(100);
+    same(whelk_run_lookup_slices(0, starts, 100, hops, 100, 5), REFUSED, 0, 5);
+    same(whelk_run_lookup_slices(0, starts, 0, hops, 0, 5), REFUSED, 0, 5);
+    same(whelk_run_lookup_slices((size_t)-1, starts, 100, hops, 100, 5), REFUSED, 0, 5);
+    for (n = 1; n <= 100; n++) {
+        unsigned probes;
+        uint32_t address = any();
+        uint64_t want = halved(n, address, &probes);
+        want |= (uint64_t)probes << 32;
+        same(whelk_run_lookup_slices(n, starts, n, hops, n, address), want, n, address);
+        same(whelk_run_lookup_slices(n, starts, n, hops, 100, address), want, n, address);
+        same(whelk_run_lookup_slices(n, starts, 100, hops, n, address), want, n, address);
+        same(whelk_run_lookup_slices(n, starts, n - 1, hops, n, address), REFUSED, n, address);
+        same(whelk_run_lookup_slices(n, starts, n, hops, n - 1, address), REFUSED, n, address);
+    }
+}
+
+static void short_tables(void)
+{
+    size_t n;
+    int k;
+    for (n = 1; n <= 300; n++)
+        for (k = 0; k < 3; k++) {
+            well_formed(n);
+            over(n, 50);
+        }
+}
+
+static void long_tables(void)
+{
+    static const size_t sizes[] = {1023, 1024, 1025, 65535, 65536, 65537, MOST - 1, MOST};
+    size_t k;
+    for (k = 0; k < sizeof sizes / sizeof sizes[0]; k++) {
+        well_formed(sizes[k]);
+        over(sizes[k], 20000);
+    }
+}
+
+static void by_walking(void)
+{
+    size_t n;
+    int k;
+    for (n = 1; n <= 3000; n += 1 + n / 10) {
+        const uint8_t *bytes;
+        well_formed(n);
+        bytes = bytes_of(n);
+        for (k = 0; k < 1000; k++) {
+            uint32_t address = k % 2 == 0 ? any() : starts[below((uint32_t)n)] - (uint32_t)(k / 2 % 2);
+            same(whelk_run_lookup(bytes, 6 * n, address), walked(n, address), n, address);
+        }
+    }
+}
+
+/* starts in no order */
+static void unordered(void)
+{
+    size_t n, i;
+    for (n = 1; n <= 5000; n += 1 + n / 20) {
+        for (i = 0; i < n; i++) {
+            starts[i] = n % 2 == 0 ? any() : below(16);
+            hops[i] = (uint16_t)any();
+        }
+        over(n, 500);
+    }
+}
+
+/* a well-formed table with damage: equal neighbours, a start out of order, a first start above 0 */
+static void damaged(void)
+{
+    size_t n;
+    for (n = 2; n <= 5000; n += 1 + n / 20) {
+        uint32_t i;
+        well_formed(n);
+        i = 1 + below((uint32_t)n - 1);
+        starts[i] = starts[i - 1];
+        hops[i] = hops[i - 1];
+        over(n, 100);
+        well_formed(n);
+        i = below((uint32_t)n);
+        starts[i] = any();
+        over(n, 100);
+        well_formed(n);
+        starts[0] = 1 + below(LAST);
+        over(n, 100);
+    }
+}
+
+int main(void)
+{
+    figure();
+    group("list A");
+    lengths();
+    group("every length up to 6,000 bytes");
+    counts();
+    group("counts beyond one slice or the other");
+    short_tables();
+    group("every count up to 300, at every edge");
+    long_tables();
+    group("tables of up to 1,000,000 runs");
+    by_walking();
+    group("well-formed tables, by a walk over the runs");
+    unordered();
+    group("starts in no order");
+    damaged();
+    group("equal neighbours, one start out of order, a first start above 0");
+    if (lookups < 1000000)
+        check("a million lookups at least", 0);
+    return finish();
+}
