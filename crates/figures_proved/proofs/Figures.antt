@@ -4,7 +4,7 @@ use lib.Dec.{T}
 use lib.Count.{ones, onesIn}
 use Rattle.ground.specs.Numbers.{firstFault, outcome}
 use Rattle.ground.specs.Slots.{same, written, rewritten}
-use Rattle.ground.specs.Column.{ascends, isIn, insertedAt, removedAt}
+use Rattle.ground.specs.Column.{ascends, isIn, insertedAt, removedAt, lower}
 use Rattle.ground.specs.Stretch.{stretch, among, turnsFrom}
 use Rattle.halving.specs.Halving.{halves, halving}
 use Rattle.cidr.specs.Prefix.{size, hostBits, isPrefix, holds, covers}
@@ -13,7 +13,6 @@ use Rattle.routes.specs.WellFormed.{prefixes, hopsGiven, ascending, halfRows, g
 use Rattle.routes.specs.Plain.{matching, longer, longest, plain}
 use Rattle.routes.specs.Change.{announced, withdrawn}
 use Rattle.routes.specs.Lookup.{lookupChecks, plainLookup, halfChecks, halfLookup}
-use Rattle.routes.specs.Place.{lower}
 use Rattle.feed.specs.Rows.{rowsIn, rowLength}
 use Rattle.feed.specs.Reading.{digits, afterDigits, fieldsOf, valueFrom, inPlaces, valuesOf, outOfRange, hasHostBits, valueFault, judgedValues, judged, readRow}
 use Rattle.feed.specs.RowNumber.{howMany, countsOf}

@@ -5,7 +5,7 @@ use mathlib.Core.Option.{Option, none, some}
 use Prim.Native.Nat.{ℕ, _+_, _^_}
 use lib.ListN.{length}
 use Rattle.ground.specs.Slots.{rewritten}
-use Rattle.ground.specs.Column.{isIn, insertedAt, removedAt}
+use Rattle.ground.specs.Column.{isIn, insertedAt, removedAt, lower}
 use Rattle.halving.specs.Halving.{halving}
 use Rattle.ground.specs.Stretch.{turnsFrom}
 use Rattle.cidr.specs.Prefix.{dotted, size, endOf, isPrefix, holds, covers, keyOf}
@@ -14,7 +14,6 @@ use Rattle.routes.specs.WellFormed.{wellFormed}
 use Rattle.routes.specs.Plain.{plain}
 use Rattle.routes.specs.Change.{announced, withdrawn}
 use Rattle.routes.specs.Lookup.{plainLookup, halfLookup}
-use Rattle.routes.specs.Place.{lower}
 use Rattle.feed.specs.Rows.{rowsIn, rowLength}
 use Rattle.feed.specs.Reading.{Reading, good, bad}
 use Rattle.feed.specs.declared.Counts.{Counts}

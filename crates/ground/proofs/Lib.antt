@@ -5,3 +5,4 @@ pub mod Falls
 pub mod Column
 pub mod Slots
 pub mod Numbers
+pub mod Lower
