@@ -1,4 +1,4 @@
--- Every marked figure of document 01, and every corner beside them, is what the definitions compute.
+-- Every figure that rules 14.3 to 14.10 mark *, and every corner beside them, is what the definitions compute.
 -- Assumes nothing.
 use lib.Dec.{T}
 use lib.Count.{ones, onesIn}
