@@ -108,7 +108,7 @@ ended-of-not key a p from e =
     let no-more : ¬ (a < endOf key) = λ lt. never-both (within-holds key a p from lt) e in
     omega arith
 
--- "a prefix stands before every longer one inside it"
+-- Rule 2.9: of two prefixes one inside the other, the shorter has the smaller key.
 pub covers-before : (key other : ℕ) → covers key other ≡ true → lengthOf key < lengthOf other → key < other
 unfolding covers
 covers-before key other e long =

@@ -3,7 +3,7 @@ ghost use mathlib.Core.Path.{_≡_};
 ghost use Prim.Native.Nat.{_+_, _-_, _*_, _/_, _^_, _≤_};
 ghost use Rattle.cidr.specs.Prefix.{isPrefix, holds, network, endOf};
 
-// How many addresses there are: an address is a number below it.
+// Rule 2.1: there are so many addresses, and an address is a number below it.
 pub const ADDRESSES: u64 = 4294967296;
 
 // A number with its low `bits` bits set to 0.
@@ -21,7 +21,7 @@ fn bits_beyond(len: u64) -> u64
     if len < 32 { 32 - len } else { 0 }
 }
 
-// A key is a prefix: length 0 to 32, network an address, the low 32 - length bits of the network 0.
+// Rule 2.7: whether a number is a key. Its length is at most 32, its network is an address and has no host bit that is 1.
 pub fn is_prefix(key: u64) -> bool
     ensures { λ r. ⌜ r ≡ isPrefix key ⌝ }
 {
@@ -36,7 +36,7 @@ pub fn is_prefix(key: u64) -> bool
     cleared(net, bits_beyond(len)) == net
 }
 
-// The prefix holds the address: the address, with its bits beyond the prefix's length set to 0, is the prefix's network.
+// Rule 2.3: whether the prefix holds the address. It does if the address becomes the prefix's network once its host bits are 0.
 pub fn holds(key: u64, a: u32) -> bool
     ensures { λ r. ⌜ r ≡ holds key a ⌝ }
 {
@@ -44,14 +44,14 @@ pub fn holds(key: u64, a: u32) -> bool
     cleared(a as u64, bits_beyond(len)) == network(key)
 }
 
-// The network of a key.
+// Rule 2.7: the network of a key.
 pub fn network(key: u64) -> u64
     ensures { λ r. ⌜ r ≡ network key ⌝ }
 {
     key / 64
 }
 
-// One past the last address of a key's prefix, which for a prefix that reaches 255.255.255.255 is 2^32.
+// Rule 2.4: the end of a key's prefix. For one that reaches 255.255.255.255 it is 2^32.
 pub fn end_of(key: u64) -> u64
     ensures { λ r. ⌜ r ≡ endOf key ⌝ }
 {

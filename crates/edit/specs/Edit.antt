@@ -1,6 +1,5 @@
--- "Both check the whole pair, in the order above, before they write anything. 13 is given exactly when the edited list exceeds its room or
--- its run table exceeds the runs' room." 15 where "an edit's length is over 32, host bits are set, or an announced hop is 0".
--- An edit names its prefix by a network, a u32, and a length.
+-- Rule 10.1: an edit is handed a pair and names a prefix, by a network of 32 bits and a length. Announce has a hop as well.
+-- Rules 10.2 to 10.9: this is what the two edits check, return and leave.
 -- Assumes nothing.
 use mathlib.Core.Bool.{Bool, not, _||_}
 use mathlib.Core.List.{List, [], _∷_, _++_}
@@ -16,17 +15,17 @@ use Rattle.runs.specs.Table.{runStarts, runHops}
 use Rattle.runs.specs.Build.{runRoom}
 use Rattle.runs.specs.Pair.{Pair, listOf, pairChecks}
 
--- the network and the length that an edit names aren't a prefix: the length is over 32 or host bits are set
+-- Rule 10.2: an edit names no prefix if the length is above 32 or the network has a host bit that is 1.
 unfoldable pub badPrefix : ℕ → ℕ → Bool
 badPrefix net len = ltb 32 len || not (isPrefix (keyOf net len))
 
--- the edited list exceeds its room or its run table exceeds the runs' room
+-- Rule 10.5: the list after the edit has more rows than the list's room, or the run table after it more runs than that table's room.
 unfoldable pub exceeds : List Row → Pair → Bool
 exceeds after p =
     ltb (listRoom (p .list .keys) (p .list .hops)) (length after)
     || ltb (runRoom (p .table .starts) (p .table .hops)) (length (runStarts after))
 
--- What an edit returns and leaves: its number, the changed number, the two new counts, and the four lent slices.
+-- Rule 10.9: an edit returns its number, the changed number and the two new counts. It leaves the four slices of the pair.
 pub record Edited : Type 0 where
   pub number : ℕ
   pub changed : ℕ
@@ -37,7 +36,7 @@ pub record Edited : Type 0 where
   pub starts : List ℕ
   pub rhops : List ℕ
 
--- A refusal returns its number and 0 for each other number, and leaves the slices as they were.
+-- Rule 5.4: a refusal returns its number and 0 for the rest, and leaves the slices as they were.
 abbrev pub editRefused : Pair → ℕ → Edited
 editRefused p n = record {
   number = n;
@@ -50,7 +49,7 @@ editRefused p n = record {
   rhops = p .table .hops;
 }
 
--- "The list and runs equal a fresh build's in the counts and in every slot below them."
+-- Rule 10.7: the slices have the edited list and its run table at the front. Rule 10.8: slots that only an old count reached hold 0.
 abbrev pub editDone : List Row → Pair → Edited
 editDone after p = record {
   number = done;
@@ -63,10 +62,11 @@ editDone after p = record {
   rhops = rewritten (runHops after) (p .table .count) (p .table .hops);
 }
 
--- announce
+-- Rule 10.1: the list after an announcement.
 unfoldable pub afterAnnounce : ℕ → ℕ → ℕ → Pair → List Row
 afterAnnounce net len hop p = announced (keyOf net len) hop (listOf p)
 
+-- Rules 10.2, 10.3 and 10.5: the checks of an announcement, for 15, 11, 14 and 13.
 unfoldable pub announceChecks : ℕ → ℕ → ℕ → Pair → List Check
 announceChecks net len hop p =
     check (badPrefix net len || eqb hop 0) badEdit
@@ -77,10 +77,11 @@ announceChecks net len hop p =
 unfoldable pub announce : ℕ → ℕ → ℕ → Pair → Edited
 announce net len hop p = outcome (announceChecks net len hop p) (editRefused p) (editDone (afterAnnounce net len hop p) p)
 
--- withdraw
+-- Rule 10.1: the list after a withdrawal.
 unfoldable pub afterWithdraw : ℕ → ℕ → Pair → List Row
 afterWithdraw net len p = withdrawn (keyOf net len) (listOf p)
 
+-- Rules 10.2 to 10.5: the checks of a withdrawal, for 15, 11, 14, 16 and 13.
 unfoldable pub withdrawChecks : ℕ → ℕ → Pair → List Check
 withdrawChecks net len p =
     check (badPrefix net len) badEdit

@@ -1,4 +1,5 @@
-// Document 01's figures that run in a program, and corners of the import. tests/figures/expected.py makes what it has to write.
+// The worked figures of rules 14.3, 14.4, 14.7, 14.8 and 14.11, as far as they are plain answers and run tables, and corners of the import.
+// tests/figures/expected.py makes what it has to write.
 use feed::Counts;
 use feed::ImportEnd;
 use routes::Looked;
@@ -16,7 +17,7 @@ fn plain(count: usize, keys: &[u64], hops: &[u16], a: u32) {
     }
 }
 
-// The plain answers of list A.
+// Rule 14.3: the plain answers of list A.
 fn plain_answers() {
     print::text(b"# Plain answers of list A\n");
     let mut keys = [0u64; 7];
@@ -114,7 +115,7 @@ fn import(name: &[u8], feed: &[u8], k: usize, h: usize, r: usize)
     imported(feed, &mut keys[..k], &mut hops[..h], &mut report[..r]);
 }
 
-// The rows of document 01, and where rows begin and end.
+// The rows of rule 13.5, and where rows begin and end.
 fn import_rows() {
     import(
         b"the five rows of document 01",
@@ -143,7 +144,7 @@ fn import_rows() {
     );
 }
 
-// Rows that aren't of the form.
+// Rule 3.3: rows that aren't of the form.
 fn import_shapes() {
     import(b"NUL", b"\0\n1.0.0.0/8 1\0\n1.0.0.0\0/8 1\n", 2, 2, 4);
     import(
@@ -186,7 +187,7 @@ fn import_shapes() {
     );
 }
 
-// Rows of the form whose numbers are at or past an end.
+// Rules 3.4 and 3.7: rows of the form whose numbers are at or past an end.
 fn import_values() {
     import(
         b"octets",
@@ -218,7 +219,7 @@ fn import_values() {
     );
 }
 
-// Host bits, and the order of faults.
+// Rules 3.6 and 3.7: host bits, and the order of faults.
 fn import_faults() {
     import(
         b"host bits",
@@ -236,7 +237,7 @@ fn import_faults() {
     );
 }
 
-// Rooms.
+// Rule 3.8: rooms.
 fn import_rooms() {
     import(
         b"slices of length 0",
@@ -270,7 +271,7 @@ fn import_rooms() {
     );
 }
 
-// Reports.
+// Rules 4.4 and 4.7: reports.
 fn import_reports() {
     import(
         b"a report as long as the rows",
@@ -326,7 +327,7 @@ fn build(name: &[u8], feed: &[u8], room: usize)
     built(count, &keys, &hops, &mut starts[..room], &mut rhops[..room]);
 }
 
-// The run tables of list A.
+// Rules 14.4, 14.7 and 14.8: the run tables of list A.
 fn builds_of_a() {
     build(
         b"list A",
@@ -362,7 +363,7 @@ fn builds_of_a() {
     );
 }
 
-// Document 01's other run tables, and corners.
+// Rule 14.11: the other run tables. Rule 15.1: a route whose loss makes more runs. And corners.
 fn builds_of_corners() {
     build(b"the empty list", b"", 2);
     build(b"the empty list in no slot", b"", 0);

@@ -1,4 +1,4 @@
--- Every call's checks run in document 01's order, whatever the call is handed: "15, 11, 14, 16, 17, 18, 19, 12, 13".
+-- Rule 5.2: every call makes its checks in the order 15, 11, 14, 16, 17, 18, 19, 12, 13, whatever it is handed.
 -- Assumes nothing.
 use mathlib.Core.Path.{_≡_, refl}
 use mathlib.Core.Bool.{true}

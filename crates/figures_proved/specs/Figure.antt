@@ -1,4 +1,4 @@
--- A figure: what the definitions compute, and the numbers that are stated for it.
+-- Rule 14.1: a figure is what the definitions compute, and the numbers that are stated for it.
 -- Assumes nothing.
 use mathlib.Core.Bool.{Bool, true, false, _&&_}
 use mathlib.Core.List.{List, [], _∷_}

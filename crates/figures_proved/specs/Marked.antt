@@ -1,4 +1,4 @@
--- The lines marked * of "Figures to test against", in their order.
+-- Rule 14.1: the worked figures of rules 14.3 to 14.10 that are marked *, as one table.
 -- Assumes nothing.
 use mathlib.Core.List.{List, [], _∷_}
 use Prim.Native.Nat.{ℕ}
@@ -12,7 +12,7 @@ use Rattle.feed.specs.Import.{rowNumbers}
 use Rattle.text.specs.Program.{bytes}
 use Rattle.figures_proved.specs.Figure.{Figure, figure, one, prefix, route}
 
--- "List A (prefixes of 004)"
+-- Rule 14.2: list A.
 abbrev pub listA : List Row
 listA =
     route 200 24 0 0 14 1
@@ -24,10 +24,11 @@ listA =
     ∷ route 200 27 240 0 20 2
     ∷ []
 
--- the segment 51,227 of the figures, 200.27.0.0 and on
+-- Rule 14.5: segment 51,227, from 200.27.0.0 on.
 abbrev pub q : ℕ
 q = 51227
 
+-- Rules 14.6 to 14.9: list A after one edit.
 abbrev pub with21 : List Row
 with21 = announced (prefix 200 27 240 0 21) 2 listA
 
@@ -40,34 +41,34 @@ with19 = announced (prefix 200 27 224 0 19) 1 listA
 abbrev pub withDefault : List Row
 withDefault = announced (prefix 0 0 0 0 0) 4 listA
 
--- the program's five rows: `10.0.0.0/8 7`, `10.0.0.1/8 7`, `10.0.0.0/8 9`, an empty row, `10.1.0.0/16 70000`
+-- Rule 13.5: the five rows.
 abbrev pub fiveRows : List ℕ
 fiveRows = bytes "10.0.0.0/8 7\n10.0.0.1/8 7\n10.0.0.0/8 9\n\n10.1.0.0/16 70000\n"
 
 abbrev pub marked : List Figure
 marked =
-    -- 200.27.112.170 gives 2. 200.28.0.0 gives 0. 200.23.255.255 gives 0. 200.25.255.255 gives 1.
+    -- Rule 14.3: plain answers of A.
     one (plain listA (dotted 200 27 112 170)) 2
     ∷ one (plain listA (dotted 200 28 0 0)) 0
     ∷ one (plain listA (dotted 200 23 255 255)) 0
     ∷ one (plain listA (dotted 200 25 255 255)) 1
-    -- Segment 51,227: w 4, word 35,265, base 0, hops 3 1 2 1 3 2.
+    -- Rule 14.5: the segment of A has width 4, one word, base 0 and six hops.
     ∷ one (width q listA) 4
     ∷ figure (wordsOf q listA) (35265 ∷ [])
     ∷ figure (basesOf q listA) (0 ∷ [])
     ∷ figure (packedHopsOf q listA) (3 ∷ 1 ∷ 2 ∷ 1 ∷ 3 ∷ 2 ∷ [])
-    -- With 200.27.240.0/21 hop 2 added: w 5, words 32,898 and 40,962, bases 0 and 3, same hops.
+    -- Rule 14.6: with 200.27.240.0/21 hop 2 as well it has width 5, two words, and the hops as before.
     ∷ one (width q with21) 5
     ∷ figure (wordsOf q with21) (32898 ∷ 40962 ∷ [])
     ∷ figure (basesOf q with21) (0 ∷ 3 ∷ [])
     ∷ figure (packedHopsOf q with21) (3 ∷ 1 ∷ 2 ∷ 1 ∷ 3 ∷ 2 ∷ [])
-    -- A without 200.27.64.0/18: word of that segment 33,217.
+    -- Rule 14.7: the word after 200.27.64.0/18 is withdrawn.
     ∷ figure (wordsOf q without18) (33217 ∷ [])
-    -- A with 200.27.224.0/19 hop 1: word 35,267, hops 3 1 2 1 3 1 2.
+    -- Rule 14.8: the word and the hops after 200.27.224.0/19 is announced with hop 1.
     ∷ figure (wordsOf q with19) (35267 ∷ [])
     ∷ figure (packedHopsOf q with19) (3 ∷ 1 ∷ 2 ∷ 1 ∷ 3 ∷ 1 ∷ 2 ∷ [])
-    -- A with 0.0.0.0/0 hop 4, k 4: second half labels 0 2 1 2 1.
+    -- Rule 14.9: the second half's labels of A with 0.0.0.0/0 hop 4, split with k = 4.
     ∷ figure (hopsOf (secondHalf 4 withDefault)) (0 ∷ 2 ∷ 1 ∷ 2 ∷ 1 ∷ [])
-    -- The program's five rows are numbered 0 3 4 1 2.
+    -- Rule 14.10: the numbers of the five rows.
     ∷ figure (rowNumbers 1024 fiveRows) (0 ∷ 3 ∷ 4 ∷ 1 ∷ 2 ∷ [])
     ∷ []

@@ -1,4 +1,4 @@
--- What a lent slice holds after a call.
+-- Rule 5.5: an accepted call writes from the front of a slice. Rule 10.8: an edit also clears slots.
 -- Assumes nothing.
 use mathlib.Core.Bool.{Bool, true, false, _&&_}
 use mathlib.Core.List.{List, [], _∷_, _++_}
@@ -6,11 +6,11 @@ use Prim.Native.Nat.{ℕ, _-_, max}
 use lib.ListN.{length, drop, replicate}
 use lib.Dec.{eqb}
 
--- "An accepted call leaves slots past what it writes unchanged": what it writes, and then the slots as they were
+-- Rule 5.5: a slice has what the call writes at its front, and behind that its slots as they were.
 unfoldable pub written : List ℕ → List ℕ → List ℕ
 written new old = new ++ drop (length new) old
 
--- "After an accepted edit, slots between a smaller new count and the old count hold 0; slots beyond both stay unchanged"
+-- Rule 10.8: behind what an edit writes, slots that only the old count reached hold 0. Slots that neither count reaches are untouched.
 unfoldable pub rewritten : List ℕ → ℕ → List ℕ → List ℕ
 rewritten new count old = new ++ (replicate (count - length new) 0 ++ drop (max (length new) count) old)
 

@@ -37,6 +37,6 @@ counted p lo n = length (picked p lo n)
 unfoldable pub turnsFrom : ℕ → (ℕ → ℕ) → ℕ → Bool
 turnsFrom first f a = eqb a first || not (eqb (f a) (f (a - 1)))
 
--- f turns at a: a is 0, or f differs there from what it was one before
+-- Rule 6.4: f turns at a if a is 0, or if f differs there from what it was one before.
 abbrev pub turns : (ℕ → ℕ) → ℕ → Bool
 turns f = turnsFrom 0 f

@@ -1,5 +1,6 @@
--- One turn of halving, as code takes it that keeps the place to probe next and how far high is from low. Low is place - apart div 2 and
--- high is place + (apart - apart div 2), so the place is (low + high) div 2. `above` says that the place's start is above the address.
+-- Rule 7.3: one turn of halving, as the code takes it. It keeps the place to probe next, and `apart`, which is high - low.
+-- Low is place - apart div 2 and high is place + (apart - apart div 2), so the place is (low + high) div 2. `above` says that the start
+-- there is above the address.
 -- Assumes nothing.
 use mathlib.Core.Path.{_≡_}
 use mathlib.Core.Bool.{Bool, cond}

@@ -1,4 +1,4 @@
--- What the exports return to C: an import's struct, and the numbers of the other calls in one.
+-- Rules 7.9 and 7.10: what the exports return to C. An import gives a struct, and each other call puts its numbers into one.
 -- Assumes nothing.
 use mathlib.Core.List.{List, [], _∷_}
 use Prim.Native.Nat.{ℕ, _+_, _*_}
@@ -9,27 +9,27 @@ use Rattle.runs.specs.Build.{BuildOutcome}
 use Rattle.runs.specs.Lookup.{RunLookupOutcome}
 use Rattle.host.specs.declared.WhelkCounts.{WhelkCounts}
 
--- the counts that C gets: all rows, and one for each row number, in the order of the numbers
+-- Rule 4.5: the seven counts that C gets, all rows and then one for each row number.
 abbrev pub countsIn : WhelkCounts → Counts
 countsIn w = record {
   rows = w .rows;
   of = w .taken ∷ w .shape ∷ w .range ∷ w .hostbits ∷ w .repeat ∷ w .noroom ∷ [];
 }
 
--- what C gets from an import and the three slices at exit, as an import's outcome
+-- Rule 7.10: what C gets from an import and the three slices at exit, as an import's outcome.
 abbrev pub hostImportGave : WhelkCounts → List ℕ → List ℕ → List ℕ → ImportOutcome
 hostImportGave w keys hops report =
     record { number = w .number; counts = countsIn w; keys = keys; hops = hops; report = report }
 
--- the one number that C gets from a lookup: 65,536 × number + hop
+-- Rule 7.9: a lookup gives C hop + 65,536 × number.
 unfoldable pub lookupForC : LookupOutcome → ℕ
 lookupForC o = 65536 * o .number + o .hop
 
--- from a run lookup over slices, with the probes above these
+-- Rule 7.10: a run lookup over slices gives C hop + 65,536 × number + 4,294,967,296 × probes.
 unfoldable pub runLookupForC : RunLookupOutcome → ℕ
 runLookupForC o = 4294967296 * o .probes + (65536 * o .number + o .hop)
 
--- from a build: 4,294,967,296 × number + count of runs
+-- Rule 7.10: a build gives C count + 4,294,967,296 × number.
 unfoldable pub builtForC : BuildOutcome → ℕ
 builtForC o = 4294967296 * o .number + o .runs
 

@@ -15,7 +15,7 @@ use routes::Looked;
 use runs::Built;
 use runs::Probed;
 
-// What an import returns to C: its number, and the seven counts.
+// Rule 7.10: what an import returns to C, its number and the seven counts.
 #[repr(C)]
 pub struct WhelkCounts {
     pub number: usize,
@@ -38,7 +38,7 @@ fn number_of(end: ImportEnd) -> usize
     }
 }
 
-// Import a feed into lent keys, hops and report.
+// Rule 4.1: import of a feed into lent keys, hops and report.
 #[no_mangle]
 pub extern "C" fn whelk_import(
     feed: &[u8],
@@ -73,7 +73,7 @@ pub const LOOKUP_ILL_FORMED: u32 = NUMBER_UNIT * ground::ILL_FORMED;
 // A build's number stands above its count, and a run lookup's probes above its number and hop.
 pub const HIGH_UNIT: u64 = 4294967296;
 
-// The one number that C gets from a lookup: 65,536 × number + hop.
+// Rule 7.9: a lookup gives C hop + 65,536 × number.
 fn lookup_for_c(r: Looked) -> u32
     ensures { λ n. ⌜ n ≡ lookupForC (lookupGave r) ⌝ }
 {
@@ -83,7 +83,7 @@ fn lookup_for_c(r: Looked) -> u32
     }
 }
 
-// The one number that C gets from a run lookup: 4,294,967,296 × probes + 65,536 × number + hop.
+// Rule 7.10: a run lookup over slices gives C hop + 65,536 × number + 4,294,967,296 × probes.
 fn run_lookup_for_c(r: Probed) -> u64
     requires { ⌜ runLookupGave r .probes ≤ 64 ⌝ }
     ensures { λ n. ⌜ n ≡ runLookupForC (runLookupGave r) ⌝ }
@@ -94,7 +94,7 @@ fn run_lookup_for_c(r: Probed) -> u64
     }
 }
 
-// The one number that C gets from a build: 4,294,967,296 × number + count of runs.
+// Rule 7.10: a build gives C count + 4,294,967,296 × number.
 fn built_for_c(r: Built) -> u64
     ensures { λ n. ⌜ n ≡ builtForC (buildGave r [] []) ⌝ }
 {
@@ -105,7 +105,7 @@ fn built_for_c(r: Built) -> u64
     }
 }
 
-// The plain answer of a list at an address.
+// Rule 2.13: the plain answer of a list at an address.
 #[no_mangle]
 pub extern "C" fn whelk_plain_lookup(count: usize, keys: &[u64], hops: &[u16], a: u32) -> u32
     ensures { λ r. ⌜ r ≡ lookupForC (plainLookup (listLent count (now (keys .entry)) (now (hops .entry))) a) ⌝ }
@@ -113,7 +113,7 @@ pub extern "C" fn whelk_plain_lookup(count: usize, keys: &[u64], hops: &[u16], a
     lookup_for_c(routes::plain_lookup(count, keys, hops, a))
 }
 
-// Run lookup over run bytes.
+// Rule 7.8: lookup over run bytes.
 #[no_mangle]
 pub extern "C" fn whelk_run_lookup(bytes: &[u8], a: u32) -> u32
     ensures { λ r. ⌜ r ≡ lookupForC (bytesLookup (now (bytes .entry)) a) ⌝ }
@@ -121,7 +121,7 @@ pub extern "C" fn whelk_run_lookup(bytes: &[u8], a: u32) -> u32
     lookup_for_c(runs::bytes_lookup(bytes, a))
 }
 
-// Run lookup over the first `n` runs of lent starts and hops.
+// Rule 7.4: run lookup over the first `n` runs of lent starts and hops.
 #[no_mangle]
 pub extern "C" fn whelk_run_lookup_slices(n: usize, starts: &[u32], hops: &[u16], a: u32) -> u64
     ensures { λ r. ⌜ r ≡ runLookupForC (runLookup (runsLent n (now (starts .entry)) (now (hops .entry))) a) ⌝ }
@@ -129,7 +129,7 @@ pub extern "C" fn whelk_run_lookup_slices(n: usize, starts: &[u32], hops: &[u16]
     run_lookup_for_c(runs::run_lookup(n, starts, hops, a))
 }
 
-// The run table of a list into lent starts and hops.
+// Rule 6.6: the run table of a list into lent starts and hops.
 #[no_mangle]
 pub extern "C" fn whelk_build(
     count: usize,

@@ -1,4 +1,4 @@
--- The plain answer is what document 01 says. Where no listed row holds the address it is 0. Where a listed row holds it and no longer
+-- The plain answer is what rule 2.12 says. Where no listed row holds the address it is 0. Where a listed row holds it and no longer
 -- listed row does, it is that row's hop. On a well-formed list exactly one of the two is the case.
 -- Assumes nothing.
 use mathlib.Core.Path.{_≡_, refl, sym, ap, _∙_, subst}
@@ -118,11 +118,11 @@ module _ (rows : List Row) (a : ℕ) where
       one-row rows asc r s (l .listed) (k .listed)
       (same-key (r .key) (s .key) a (le-antisymm (k .longest r (l .listed) (l .matches)) (l .longest s (k .listed) (k .matches))) (l .matches) (k .matches))
 
-  -- "of the listed prefixes that hold the address, the longest one's hop"
+  -- Rule 2.12: the hop of the longest listed prefix that holds the address.
   pub plain-longest : ascending rows ≡ true → (r : Row) → Longest rows a r → plain rows a ≡ r .hop
   plain-longest asc r l =
       ⊎-elim (λ w. absurd (never-both-cases (w .0) r l)) (λ w. w .2 ∙ ap (λ x. x .hop) (one-longest asc (w .0) r (w .1) l)) plain-cases
 
-  -- "As an answer, 0 says that nothing matches": no listed hop is 0
+  -- Rule 2.6: an answer of 0 means that no listed prefix holds the address, since no listed hop is 0.
   pub plain-zero : ((r : Row) → Has r rows → r .hop ≡ 0 → ⊥) → plain rows a ≡ 0 → NoMatch rows a
   plain-zero given z = ⊎-elim (λ w. w .0) (λ w. absurd (given (w .0) (w .1 .listed) (sym (w .2) ∙ z))) plain-cases

@@ -1,5 +1,5 @@
--- "Announce adds a prefix or gives a listed one its new hop; withdraw removes it." The list afterwards, in key order.
--- "The reported number counts addresses whose plain answer differs before and after, 0 to 4,294,967,296."
+-- Rule 10.1: an announced prefix gets a row with the hop, or its row gets the hop; a withdrawn one loses its row.
+-- This is the list afterwards. Rule 10.9: the changed number is how many addresses have another plain answer by it.
 -- Assumes nothing.
 use mathlib.Core.Bool.{Bool, not, cond}
 use mathlib.Core.List.{List, [], _∷_}
@@ -12,18 +12,18 @@ use Rattle.routes.specs.Row.{Row, row, keysOf, those}
 use Rattle.routes.specs.Plain.{plain}
 pub mod Laws
 
--- the prefix is listed
+-- Rule 2.8: the prefix is listed.
 abbrev pub listed : ℕ → List Row → Bool
 listed k rows = isIn k (keysOf rows)
 
--- the list after the prefix k was announced with the hop h
+-- Rule 10.1: the list after prefix k was announced with hop h, in key order (rule 2.9).
 unfoldable pub announced : ℕ → ℕ → List Row → List Row
 announced k h [] = row k h ∷ []
 announced k h (r ∷ rs) =
     cond (ltb k (r .key)) (row k h ∷ r ∷ rs)
     (cond (eqb k (r .key)) (row k h ∷ rs) (r ∷ announced k h rs))
 
--- the list after the prefix k was withdrawn
+-- Rule 10.1: the list after prefix k was withdrawn.
 unfoldable pub withdrawn : ℕ → List Row → List Row
 withdrawn k rows = those (λ r. not (eqb k (r .key))) rows
 
@@ -31,6 +31,6 @@ withdrawn k rows = those (λ r. not (eqb k (r .key))) rows
 pub changed : (ℕ → ℕ) → (ℕ → ℕ) → ℕ
 changed f g = counted (λ a. not (eqb (f a) (g a))) 0 addresses
 
--- the number that an edit from one list to the other reports
+-- Rule 10.9: the changed number of an edit that makes one list the other.
 pub changedBetween : List Row → List Row → ℕ
 changedBetween before after = changed (plain before) (plain after)

@@ -1,4 +1,5 @@
--- The lookups over a list: 11 for an ill-formed list, else 0 with the plain answer. Over a half label 0 is an ordinary hop.
+-- Rule 2.13: plain lookup returns 11 for a list that isn't well-formed, and else 0 and the plain answer.
+-- Rule 11.8: half lookup does the same, but label 0 is no fault.
 -- Assumes nothing.
 use mathlib.Core.Bool.{not}
 use mathlib.Core.List.{List, [], _∷_}
@@ -23,14 +24,14 @@ abbrev pub lookupGave : Looked → LookupOutcome
 lookupGave (Hop h) = lookedUp done h
 lookupGave IllFormed = lookedUp illFormed 0
 
--- plain lookup
+-- Rule 2.13: plain lookup.
 unfoldable pub lookupChecks : ListLent → List Check
 lookupChecks l = check (not (wellFormed (l .count) (l .keys) (l .hops))) illFormed ∷ []
 
 unfoldable pub plainLookup : ListLent → ℕ → LookupOutcome
 plainLookup l a = outcome (lookupChecks l) (λ n. lookedUp n 0) (lookedUp done (plain (rowsLent l) a))
 
--- lookup over a half
+-- Rule 11.8: half lookup.
 unfoldable pub halfChecks : ListLent → List Check
 halfChecks l = check (not (halfFormed (l .count) (l .keys) (l .hops))) illFormed ∷ []
 

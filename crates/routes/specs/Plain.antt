@@ -1,4 +1,4 @@
--- "Plain lookup: of the listed prefixes that hold the address, the longest one's hop." "As an answer, 0 says that nothing matches."
+-- Rule 2.12: the plain answer is the hop of the longest listed prefix that holds the address, and 0 if none holds it.
 -- Assumes nothing.
 use mathlib.Core.Bool.{cond}
 use mathlib.Core.List.{List, [], _∷_}
@@ -8,7 +8,7 @@ use lib.Dec.{leb}
 use Rattle.cidr.specs.Prefix.{holds, lengthOf}
 use Rattle.routes.specs.Row.{Row, those}
 
--- the listed rows whose prefixes hold the address
+-- Rule 2.12: the rows whose prefix holds the address.
 unfoldable pub matching : ℕ → List Row → List Row
 matching a rows = those (λ r. holds (r .key) a) rows
 
@@ -22,11 +22,11 @@ unfoldable pub longest : List Row → Option Row
 longest [] = none
 longest (r ∷ rs) = longer r (longest rs)
 
--- a row's hop, and 0 for no row
+-- Rule 2.6: a row's hop, and 0 for no row.
 abbrev pub hopOf : Option Row → ℕ
 hopOf none = 0
 hopOf (some r) = r .hop
 
--- the plain answer
+-- Rule 2.12: the plain answer.
 unfoldable pub plain : List Row → ℕ → ℕ
 plain rows a = hopOf (longest (matching a rows))

@@ -1,4 +1,4 @@
--- "A list is a count with two lent slices: u64 keys .. and u16 hops."
+-- Rule 2.8: a list is a count and two lent slices, of keys and of hops. Row i is the key and the hop at place i.
 -- Assumes nothing.
 use mathlib.Core.Bool.{Bool, true, false, _&&_}
 use mathlib.Core.List.{List, [], _∷_, map}
@@ -13,7 +13,7 @@ pub record Row : Type 0 where
 abbrev pub row : ℕ → ℕ → Row
 row k h = record { key = k; hop = h }
 
--- the rows of a list: the first `count` keys, each with the hop at its place
+-- Rule 2.8: the rows of a list are its first `count` keys, each with the hop at its place. Slots from the count on are no part of it.
 unfoldable pub rowsOf : ℕ → List ℕ → List ℕ → List Row
 rowsOf zero keys hops = []
 rowsOf (suc count) [] hops = []
@@ -54,10 +54,10 @@ unfoldable pub those : (Row → Bool) → List Row → List Row
 those p [] = []
 those p (r ∷ rs) = keepRow (p r) r (those p rs)
 
--- a list's top room
+-- Rule 2.10: the top room, the most rows that any list may have.
 abbrev pub topRoom : ℕ
 topRoom = 1048576
 
--- "Room is the lesser of the two slice lengths, at most 1,048,576 rows."
+-- Rule 2.10: a list's room is the length of its shorter slice, but not more than the top room.
 unfoldable pub listRoom : List ℕ → List ℕ → ℕ
 listRoom keys hops = min (min (length keys) (length hops)) topRoom

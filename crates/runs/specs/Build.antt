@@ -1,5 +1,5 @@
--- "Lent u32 starts and u16 hops .. room is the lesser slice length, at most 2,097,153. A build leaves slots past its count unchanged."
--- 13 where "the answer needs more room than was lent".
+-- Rule 6.6: a build writes a list's run table from the front of two lent slices and returns the count of runs. It returns 11 for a list
+-- that isn't well-formed, and 13 if the run table has more runs than the room.
 -- Assumes nothing.
 use mathlib.Core.Bool.{not}
 use mathlib.Core.List.{List, [], _∷_}
@@ -14,10 +14,11 @@ use Rattle.runs.specs.declared.Built.{Built}
 use Rattle.runs.specs.declared.Built.the-variants.{Runs, IllFormed, NoRoom}
 use Rattle.runs.specs.Table.{runStarts, runHops}
 
+-- Rule 6.5: the most runs that any run table may have.
 abbrev pub topRuns : ℕ
 topRuns = 2097153
 
--- the room of two lent run slices, the starts and the runs' hops
+-- Rule 6.5: a run table's room is the length of its shorter slice, but not more than that.
 unfoldable pub runRoom : List ℕ → List ℕ → ℕ
 runRoom starts rhops = min (min (length starts) (length rhops)) topRuns
 
@@ -51,7 +52,7 @@ buildChecks l s =
     ∷ check (ltb (runRoom (s .starts) (s .hops)) (length (runStarts (rowsLent l)))) noRoom
     ∷ []
 
--- a build: the run table of the list into the front of the slices, or a refusal that leaves them
+-- Rule 6.6: a build. Rule 5.4: a refusal leaves the slices.
 unfoldable pub build : ListLent → SlotsLent → BuildOutcome
 build l s = outcome (buildChecks l s) (λ n. built n 0 (s .starts) (s .hops))
     (built done (length (runStarts (rowsLent l))) (written (runStarts (rowsLent l)) (s .starts)) (written (runHops (rowsLent l)) (s .hops)))

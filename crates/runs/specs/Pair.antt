@@ -1,5 +1,5 @@
--- A list and a run table that are handed in together: 14 where "the run table isn't exactly that of the list".
--- A count of runs beyond its slices or its top room is 11, as for a list; every other difference is 14.
+-- Rule 8.1: a pair gets 11 if its list isn't well-formed, or if its count of runs is greater than the run table's room.
+-- Rule 8.2: else it gets 14 unless the table is exactly the list's run table.
 -- Assumes nothing.
 use mathlib.Core.Bool.{Bool, not, _&&_, _||_}
 use mathlib.Core.List.{List, [], _∷_}
@@ -26,22 +26,23 @@ pair l t = record { list = l; table = t }
 abbrev pub listOf : Pair → List Row
 listOf p = rowsLent (p .list)
 
+-- Rule 8.1: the pair is ill-formed.
 unfoldable pub pairIll : Pair → Bool
 pairIll p =
     not (wellFormed (p .list .count) (p .list .keys) (p .list .hops))
     || ltb (runRoom (p .table .starts) (p .table .hops)) (p .table .count)
 
--- the table is the run table of the list, number for number
+-- Rule 8.2: the table has as many runs as the list's run table, the same starts and the same hops. Rule 8.3: later slots have no say.
 unfoldable pub itsRuns : Pair → Bool
 itsRuns p =
     same (take (p .table .count) (p .table .starts)) (runStarts (listOf p))
     && same (take (p .table .count) (p .table .hops)) (runHops (listOf p))
 
--- the checks of a pair: packing begins with them, and edits make them after 15
+-- Rule 8.4: packing begins with the checks of a pair, and edits make them after 15.
 unfoldable pub pairChecks : Pair → List Check
 pairChecks p = check (pairIll p) illFormed ∷ check (not (itsRuns p)) notItsRuns ∷ []
 
--- the number that the pair check returns, and the same read from the code's answer
+-- Rule 8.4: the number that the pair check returns, and the same read from the code's answer.
 unfoldable pub pairCheck : Pair → ℕ
 pairCheck p = firstFault (pairChecks p)
 

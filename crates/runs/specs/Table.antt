@@ -1,6 +1,6 @@
--- "The first start is 0, starts ascend strictly, neighbouring hops differ; each run's hop is the plain answer at all its addresses."
--- A run table is a matter of the answer alone: `f` is the answer at each address. `RunTable` is that sentence; `startsOf` and `runHopsOf`
--- are the one table of which it is true (`table-of` and `only-table`).
+-- Rule 6.3: a run table begins with address 0, each start is greater than the one before it, and no two runs side by side have the same
+-- hop. At each address the hop of its run is the answer there. `f` is the answer at each address. `RunTable` is the rule, and `startsOf`
+-- and `runHopsOf` are the one table that keeps it (`table-of`, `only-table`).
 -- Assumes nothing.
 use mathlib.Core.Path.{_≡_}
 use mathlib.Core.List.{List, map}
@@ -12,7 +12,7 @@ use Rattle.routes.specs.Row.{Row}
 use Rattle.routes.specs.Plain.{plain}
 pub mod Laws
 
--- a run table as it is lent: a count with its two slices
+-- Rule 6.1: a run table as it is lent, a count and two slices.
 pub record RunsLent : Type 0 where
   pub count : ℕ
   pub starts : List ℕ
@@ -21,7 +21,7 @@ pub record RunsLent : Type 0 where
 abbrev pub runsLent : ℕ → List ℕ → List ℕ → RunsLent
 runsLent count starts hops = record { count = count; starts = starts; hops = hops }
 
--- what a run table of the answer f is: run i begins at start i and ends before start i + 1, the last one with the last address
+-- Rule 6.2: run i goes from start i up to the address before start i + 1, and the last run to the last address.
 pub record RunTable (f : ℕ → ℕ) (starts hops : List ℕ) : Type 0 where
   pub paired : length hops ≡ length starts
   pub some-run : 0 < length starts
@@ -32,15 +32,15 @@ pub record RunTable (f : ℕ → ℕ) (starts hops : List ℕ) : Type 0 where
   pub answers : (i a : ℕ) → i < length starts → getD starts i 0 ≤ a → a < addresses
       → (i + 1 < length starts → a < getD starts (i + 1) 0) → getD hops i 0 ≡ f a
 
--- the starts of the run table of f: the addresses at which f turns
+-- Rule 6.4: the starts are the addresses at which f turns.
 pub startsOf : (ℕ → ℕ) → List ℕ
 startsOf f = picked (turns f) 0 addresses
 
--- its hops: what f is at each start
+-- Rule 6.3: the hop of a run is what f is at its start.
 unfoldable pub runHopsOf : (ℕ → ℕ) → List ℕ
 runHopsOf f = map f (startsOf f)
 
--- the run table of a list is that of its plain answer
+-- Rule 6.3: the run table of a list is that of its plain answer.
 unfoldable pub runStarts : List Row → List ℕ
 runStarts rows = startsOf (plain rows)
 

@@ -1,4 +1,5 @@
--- What packing returns and leaves. "Packing checks list and runs (11, 14)"; 13 where a lent slice is shorter than what goes into it.
+-- Rule 9.9: packing checks the pair (11, 14), and returns 13 if one of its three slices is shorter than what goes into it. Else it writes
+-- words, bases and hops, and returns the width and how many words and hops there are.
 -- Assumes nothing.
 use mathlib.Core.List.{List, [], _∷_, _++_}
 use Prim.Native.Nat.{ℕ}
@@ -25,6 +26,7 @@ pub record PackOutcome : Type 0 where
   pub bases : List ℕ
   pub hops : List ℕ
 
+-- Rule 9.9: the pair is checked first, then the room.
 unfoldable pub packChecks : ℕ → Pair → PackLent → List Check
 packChecks q p l =
     pairChecks p
@@ -33,10 +35,11 @@ packChecks q p l =
     ∷ check (ltb (length (l .hops)) (length (packedHopsOf q (listOf p)))) noRoom
     ∷ []
 
--- a refusal returns its number and 0 for the others, and leaves the slices
+-- Rule 5.4: a refusal returns its number and 0 for the rest, and leaves the slices.
 abbrev pub packRefused : PackLent → ℕ → PackOutcome
 packRefused l n = record { number = n; width = 0; wordCount = 0; hopCount = 0; words = l .words; bases = l .bases; hops = l .hops }
 
+-- Rule 9.9: what an accepted packing returns and leaves.
 abbrev pub packDone : ℕ → Pair → PackLent → PackOutcome
 packDone q p l = record {
   number = done;
@@ -48,6 +51,6 @@ packDone q p l = record {
   hops = written (packedHopsOf q (listOf p)) (l .hops);
 }
 
--- packing segment q
+-- Rule 9.9: packing segment q.
 unfoldable pub pack : ℕ → Pair → PackLent → PackOutcome
 pack q p l = outcome (packChecks q p l) (packRefused l) (packDone q p l)

@@ -1,4 +1,4 @@
--- "Segment q, a 16-bit number, is the addresses with high 16 bits q." A call takes q as a u16.
+-- Rule 9.1: segment q is the 65,536 addresses that begin with the 16 bits of q. Rules 9.2 to 9.8: this is what packing writes for it.
 -- Assumes nothing.
 use mathlib.Core.Bool.{Bool, true, false, cond, _&&_}
 use mathlib.Core.List.{List, [], _∷_, map}
@@ -10,42 +10,54 @@ use Rattle.cidr.specs.Prefix.{network, lengthOf}
 use Rattle.routes.specs.Row.{Row}
 use Rattle.routes.specs.Plain.{plain}
 
--- "Width w is the longest listed length in the segment minus 16, or 0 if none there exceeds 16": of the prefixes whose network is in the
--- segment. (One of length 16 or less gives 0, whether it is the whole segment or more.)
+-- Rule 9.2: the width is the greatest length among the listed prefixes in the segment that are longer than 16, less 16, and 0 if there are
+-- none. A prefix longer than 16 lies in the segment if its network does. A shorter one gives 0, wherever it lies.
 unfoldable pub width : ℕ → List Row → ℕ
 width q [] = 0
 width q (r ∷ rs) = max (cond (eqb (network (r .key) / 65536) q) (lengthOf (r .key) - 16) 0) (width q rs)
 
--- "The segment has 2^w blocks of equal size." A block's hop is the plain answer at its first
--- address; no listed prefix begins or ends inside a block, so it is that of all its addresses.
+-- Rule 9.3: the hop of block t is the plain answer at its first address. No listed prefix begins or ends inside a block, so the hop is that
+-- of all its addresses.
 unfoldable pub blockHop : ℕ → List Row → ℕ → ℕ → ℕ
 blockHop q rows w t = plain rows (q * 65536 + t * 2 ^ (16 - w))
 
--- "Bit t is 1 if t is 0 or block t's hop differs from block t - 1's"; "unused bits are 0"
-unfoldable pub bit : ℕ → List Row → ℕ → ℕ → Bool
-bit q rows w t = ltb t (2 ^ w) && turns (blockHop q rows w) t
+-- Rule 9.4: bit 0 is 1, and a later bit is 1 if the hop of its block isn't that of the block before. Rule 9.5: a bit without a block is 0.
+-- Here and below, `hop` is the hop of each of n blocks.
+unfoldable pub bit : (ℕ → ℕ) → ℕ → ℕ → Bool
+bit hop n t = ltb t n && turns hop t
 
 abbrev pub bitValue : Bool → ℕ
 bitValue true = 1
 bitValue false = 0
 
--- "Sixteen bits make a code word, bit 0 highest": the word of the bits from t on, of which `left` are left
+-- Rule 9.5: the first bit of a word is its highest. This is the number of the bits from t on, of which `left` are left.
 unfoldable pub wordFrom : (ℕ → Bool) → ℕ → ℕ → ℕ
 wordFrom b zero t = 0
 wordFrom b (suc left) t = bitValue (b t) * 2 ^ left + wordFrom b left (suc t)
 
--- the code words: enough for 2^w bits
-unfoldable pub wordsOf : ℕ → List Row → List ℕ
-wordsOf q rows = map (λ j. wordFrom (bit q rows (width q rows)) 16 (j * 16)) (stretch 0 ((2 ^ width q rows + 15) / 16))
+-- Rule 9.6: there are enough words for n bits.
+unfoldable pub wordCount : ℕ → ℕ
+wordCount n = (n + 15) / 16
 
--- "A word's base is the number of ones in all words before it."
+-- Rule 9.5: word j has the bits 16j to 16j + 15.
+unfoldable pub codeWords : (ℕ → ℕ) → ℕ → List ℕ
+codeWords hop n = map (λ j. wordFrom (bit hop n) 16 (j * 16)) (stretch 0 (wordCount n))
+
+-- Rule 9.7: the base of a word is how many bits are 1 in the words before it.
 unfoldable pub basesFrom : ℕ → List ℕ → List ℕ
 basesFrom before [] = []
 basesFrom before (word ∷ words) = before ∷ basesFrom (before + ones word) words
 
+-- Rule 9.8: the hops are those of the blocks whose bit is 1, in order.
+unfoldable pub keptHops : (ℕ → ℕ) → ℕ → List ℕ
+keptHops hop n = map hop (among (bit hop n) (stretch 0 n))
+
+-- the words, bases and hops of segment q of a list
+unfoldable pub wordsOf : ℕ → List Row → List ℕ
+wordsOf q rows = codeWords (blockHop q rows (width q rows)) (2 ^ width q rows)
+
 unfoldable pub basesOf : ℕ → List Row → List ℕ
 basesOf q rows = basesFrom 0 (wordsOf q rows)
 
--- "One hop is kept for each 1."
 unfoldable pub packedHopsOf : ℕ → List Row → List ℕ
-packedHopsOf q rows = map (blockHop q rows (width q rows)) (among (bit q rows (width q rows)) (stretch 0 (2 ^ width q rows)))
+packedHopsOf q rows = keptHops (blockHop q rows (width q rows)) (2 ^ width q rows)

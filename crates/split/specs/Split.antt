@@ -1,6 +1,5 @@
--- "Size k, 1 to n. The first half is the first k rows, left where they stand; only the second is written, to slices of its own, and 13 is
--- for those. The second half is 0.0.0.0/0 with label 0, then each other row with its hop XORed with the hop of the longest prefix in the
--- first half that holds it. It has n - k + 1 rows exactly."
+-- Rule 11.4: the first half of a list is its first k rows, which stay where they are. Rule 11.5: the second half is 0.0.0.0/0 with label 0
+-- and then the list's other rows, each with a label. Rule 11.7: a split writes the second half and returns its count.
 -- Assumes nothing.
 use mathlib.Core.Bool.{not, _||_}
 use mathlib.Core.List.{List, [], _∷_, map}
@@ -20,15 +19,15 @@ use Rattle.routes.specs.Change.{listed}
 abbrev pub defaultKey : ℕ
 defaultKey = keyOf 0 0
 
--- the rows whose prefixes hold the prefix k
+-- Rule 2.5: the rows whose prefix holds the prefix k.
 unfoldable pub covering : ℕ → List Row → List Row
 covering k rows = those (λ r. covers (r .key) k) rows
 
--- "its hop XORed with the hop of the longest prefix in the first half that holds it"
+-- Rule 11.5: a row's label is the XOR of its own hop and that of the longest among the first half's prefixes which hold the row's prefix.
 unfoldable pub relabelled : List Row → Row → Row
 relabelled first r = row (r .key) (bitXor (r .hop) (hopOf (longest (covering (r .key) first))))
 
--- the two halves
+-- Rules 11.4 and 11.5: the two halves.
 unfoldable pub firstHalf : ℕ → List Row → List Row
 firstHalf k rows = take k rows
 
@@ -53,6 +52,7 @@ pub record SplitOutcome : Type 0 where
 abbrev pub splitInto : ℕ → ℕ → List ℕ → List ℕ → SplitOutcome
 splitInto n count keys labels = record { number = n; count = count; keys = keys; labels = labels }
 
+-- Rules 11.1, 11.2, 11.3 and 11.7: the checks of a split, for 11, 17, 18 and 13.
 unfoldable pub splitChecks : ℕ → ListLent → SplitLent → List Check
 splitChecks k l out =
     check (not (wellFormed (l .count) (l .keys) (l .hops))) illFormed
@@ -61,7 +61,7 @@ splitChecks k l out =
     ∷ check (ltb (listRoom (out .keys) (out .labels)) (length (secondHalf k (rowsLent l)))) noRoom
     ∷ []
 
--- the split of a list of size k
+-- Rule 11.7: the split of a list with size k. Rule 5.4: a refusal leaves the slices.
 unfoldable pub split : ℕ → ListLent → SplitLent → SplitOutcome
 split k l out = outcome (splitChecks k l out) (λ n. splitInto n 0 (out .keys) (out .labels))
     (splitInto done (length (secondHalf k (rowsLent l)))

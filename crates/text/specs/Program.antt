@@ -1,5 +1,5 @@
--- "The program reads at most 16,384 bytes from standard input (more: the one line `feed too long`), with room for 1,024 rows." What it writes,
--- as a function of what it is given: the counts, a line each, and the run table of the imported list, a line a run.
+-- Rules 13.1 to 13.4: what the program writes for a feed. One of more than 16,384 bytes gets the line `feed too long`. Any other gets its
+-- counts, a line each, and the run table of the imported list, a line a run.
 -- Assumes nothing.
 use mathlib.Core.Bool.{cond}
 use mathlib.Core.List.{List, [], _∷_, _++_}
@@ -20,13 +20,15 @@ abbrev pub bytes : String → List ℕ
 bytes no-text = []
 bytes (_then_ c s) = code c ∷ bytes s
 
+-- Rule 13.1: the most bytes that a feed may have.
 abbrev pub longestFeed : ℕ
 longestFeed = 16384
 
+-- Rule 13.2: the room of the list.
 abbrev pub programRoom : ℕ
 programRoom = 1024
 
--- a line: a name, a space and a number
+-- Rule 13.3: a line is a name, a space and a number.
 unfoldable pub lineOf : List ℕ → ℕ → List ℕ
 lineOf name n = name ++ space ∷ decimal n ++ LF ∷ []
 
@@ -35,16 +37,17 @@ unfoldable pub nameLines : List NamedRow → Counts → List ℕ
 nameLines [] c = []
 nameLines (r ∷ rs) c = lineOf (bytes (r .name)) (rowsWith (r .number) c) ++ nameLines rs c
 
--- the lines of the counts: all rows, and then each name of the table
+-- Rule 13.3: the lines of the counts, all rows and then each name of the table.
 unfoldable pub countLines : Counts → List ℕ
 countLines c = lineOf (bytes "rows") (c .rows) ++ nameLines rowNames c
 
--- the lines of a run table: each run's start and hop
+-- Rule 13.4: the lines of a run table, each run's start and hop.
 unfoldable pub runLines : List ℕ → List ℕ → List ℕ
 runLines [] hops = []
 runLines (s ∷ starts) [] = []
 runLines (s ∷ starts) (h ∷ hops) = lineOf (dottedText s) h ++ runLines starts hops
 
+-- Rules 13.1 to 13.4: all that the program writes.
 unfoldable pub programText : List ℕ → List ℕ
 programText feed =
     cond (ltb longestFeed (length feed))

@@ -1,5 +1,5 @@
--- "The writer puts rows in list order, no leading zeros, LF after each .. 13 exactly if the text is longer than the buffer; bytes beyond
--- the text stay."
+-- Rule 12.2: a list's text has a line `a.b.c.d/len hop` for each row, in the order of the list. Rule 12.3: the writer puts the text at the
+-- front of a buffer and returns its length. It returns 11 for a list that isn't well-formed, and 13 for a buffer that is too short.
 -- Assumes nothing.
 use mathlib.Core.Bool.{true, false, not}
 use mathlib.Core.List.{List, [], _∷_, _++_}
@@ -13,7 +13,7 @@ use Rattle.routes.specs.Row.{Row, ListLent, rowsLent}
 use Rattle.routes.specs.WellFormed.{wellFormed}
 use Rattle.feed.specs.Rows.{LF, dot, slash, space, digit0}
 
--- A number's decimal digits, no leading zeros. `more` bounds how many stand before the last one; n itself is enough.
+-- Rule 12.2: a number's decimal digits, with no zero in front. `more` bounds how many stand before the last one; n itself is enough.
 unfoldable pub decimalBy : ℕ → ℕ → List ℕ
 decimalBy zero n = (digit0 + n) ∷ []
 decimalBy (suc more) n =
@@ -22,7 +22,7 @@ decimalBy (suc more) n =
 unfoldable pub decimal : ℕ → List ℕ
 decimal n = decimalBy n n
 
--- an address as a.b.c.d
+-- Rule 2.1: an address as a.b.c.d.
 unfoldable pub dottedText : ℕ → List ℕ
 dottedText a =
     decimal (a / 16777216)
@@ -30,16 +30,16 @@ dottedText a =
     ++ dot ∷ decimal (a / 256 % 256)
     ++ dot ∷ decimal (a % 256)
 
--- a row as `a.b.c.d/len hop` and an LF
+-- Rule 12.2: a row as `a.b.c.d/len hop` with an LF behind it.
 unfoldable pub rowText : Row → List ℕ
 rowText r = dottedText (network (r .key)) ++ slash ∷ decimal (lengthOf (r .key)) ++ space ∷ decimal (r .hop) ++ LF ∷ []
 
--- the text of a list: its rows in list order
+-- Rule 12.2: the text of a list, a line a row.
 unfoldable pub textOf : List Row → List ℕ
 textOf [] = []
 textOf (r ∷ rs) = rowText r ++ textOf rs
 
--- what the list writer returns and leaves: its number, how many bytes it wrote, and the buffer
+-- Rule 12.3: what the list writer returns and leaves, its number, the length of the text, and the buffer.
 pub record WriteOutcome : Type 0 where
   pub number : ℕ
   pub length : ℕ
@@ -48,13 +48,14 @@ pub record WriteOutcome : Type 0 where
 abbrev pub wrote : ℕ → ℕ → List ℕ → WriteOutcome
 wrote n len buffer = record { number = n; length = len; buffer = buffer }
 
+-- Rule 12.1: 11 for a list that isn't well-formed. Rule 12.3: 13 for a buffer of fewer bytes than the text.
 unfoldable pub writeChecks : ListLent → List ℕ → List Check
 writeChecks l buffer =
     check (not (wellFormed (l .count) (l .keys) (l .hops))) illFormed
     ∷ check (ltb (length buffer) (length (textOf (rowsLent l)))) noRoom
     ∷ []
 
--- the list writer
+-- Rule 12.3: the list writer.
 unfoldable pub write : ListLent → List ℕ → WriteOutcome
 write l buffer = outcome (writeChecks l buffer) (λ n. wrote n 0 buffer)
     (wrote done (length (textOf (rowsLent l))) (written (textOf (rowsLent l)) buffer))

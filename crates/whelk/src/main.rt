@@ -1,20 +1,20 @@
-// The program: a text feed from standard input, at most 16,384 bytes, into a list of at most 1,024 rows. It writes the counts, a line
-// each, and the list's run table, a line a run; a longer feed gets the one line `feed too long`.
+// Rules 13.1 to 13.4: the program. It imports a feed from standard input and writes the counts, a line each, and the run table of the
+// imported list, a line a run.
 ghost use Rattle.io.specs.Counts.{Counts as AtFront};
 use feed::Counts;
 use feed::ImportEnd;
 use libc::STDIN_FILENO;
 use runs::Built;
 
-// How many bytes of a feed are taken at most.
+// Rule 13.1: the most bytes that a feed may have.
 const LONGEST_FEED: usize = 16384;
 
-// How many rows the list has room for, and how many runs that many rows have at most.
+// Rule 13.2: the room of the list. Rule 6.5: the most runs that so many rows make.
 const ROWS: usize = 1024;
 
 const RUNS: usize = 2 * ROWS + 1;
 
-// The counts, a line each.
+// Rule 13.3: the counts, a line each.
 fn counts(c: Counts) {
     print::line(b"rows", c.rows as u64);
     print::line(b"taken", c.of[feed::TAKEN as usize] as u64);
@@ -25,7 +25,7 @@ fn counts(c: Counts) {
     print::line(b"noroom", c.of[feed::NO_ROOM_LEFT as usize] as u64);
 }
 
-// The run table of a list. A list of 1,024 rows has at most 2,049 runs, so the room is always enough.
+// Rule 13.4: the run table of a list. A list of 1,024 rows has at most 2,049 runs, so the room is always enough.
 fn table(count: usize, keys: &[u64], hops: &[u16]) {
     let mut starts = [0u32; RUNS];
     let mut rhops = [0u16; RUNS];
@@ -59,8 +59,8 @@ struct Fed {
     failed: bool,
 }
 
-// Reads standard input into the front of a buffer until that is full or the input ends. A read that fails is told apart from the end, so that no
-// part of a feed is taken for the whole.
+// Reads standard input into the front of a buffer until that is full or the input ends. Rule 13.6: a read that fails is told apart from the
+// end, so that no part of a feed is taken for the whole.
 fn read_feed(input: &mut [u8]) -> Fed
     ensures { λ r. ⌜ AtFront (r .bytes) (now (input .exit)) ⌝ }
 {
@@ -88,6 +88,7 @@ fn read_feed(input: &mut [u8]) -> Fed
     }
 }
 
+// Rule 13.1: one byte more is asked for, so that a feed that is too long is known.
 fn main() {
     let mut input = [0u8; LONGEST_FEED + 1];
     let fed = read_feed(&mut input);

@@ -23,11 +23,12 @@ pub changed-between-is : (before after : List Row) → changedBetween before aft
 unfolding changedBetween
 changed-between-is before after = refl
 
--- the changed number is 0 to 4,294,967,296, and 0 where nothing differs
+-- Rule 10.9: the changed number is at most 2^32. It is 0 if no answer differs.
 pub changed-at-most : (f g : ℕ → ℕ) → changed f g ≤ addresses
 changed-at-most f g =
     rw changed-is
-    (le-trans (counted-le _ (λ a. true) 0 addresses (λ a from to e. refl)) (le-of-eq (counted-all (λ a. true) 0 addresses (λ a from to. refl))))
+    (le-trans (counted-le _ (λ a. true) 0 addresses (λ a from to e. refl))
+    (le-of-eq (counted-all (λ a. true) 0 addresses (λ a from to. refl))))
 
 pub changed-same : (f g : ℕ → ℕ) → ((a : ℕ) → a < addresses → f a ≡ g a) → changed f g ≡ 0
 changed-same f g same =

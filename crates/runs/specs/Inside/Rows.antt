@@ -1,4 +1,4 @@
--- A build of rows that are known to be well-formed: their run table from the front, or 13 where there is no room for it.
+-- Rule 6.6: a build of rows that are known to be well-formed. It writes their run table from the front, or returns 13.
 -- Assumes nothing.
 use mathlib.Core.Bool.{cond}
 use mathlib.Core.List.{List}
