@@ -24,7 +24,7 @@ use Rattle.edit.specs.Edit.{badPrefix, announceChecks, announce, withdrawChecks
 use Rattle.runs.specs.Bytes.{runBytes, startAt, hopAt}
 use Rattle.runs.specs.Lookup.{inSlices, runChecks, runLookup, inBytes, bytesChecks, bytesLookup}
 use Rattle.host.specs.Exports.{lookupForC, runLookupForC}
-use Rattle.segment.specs.Packed.{width, blockHop, bit, wordFrom, wordCount, codeWords, wordsOf, basesFrom, basesOf, keptHops, packedHopsOf}
+use Rattle.segment.specs.Packed.{width, blockHop, bit, wordFrom, wordsFor, codeWords, wordsOf, basesFrom, basesOf, keptHops, packedHopsOf}
 use Rattle.segment.specs.Lookup.{blockOf, onesTo, pastPlace, packedChecks, packedLookup}
 use Rattle.split.specs.Split.{covering, relabelled, firstHalf, secondHalf, splitChecks, split}
 use Rattle.text.specs.Text.{decimalBy, decimal, dottedText, rowText, textOf, writeChecks, write}
@@ -34,9 +34,9 @@ use Rattle.figures_proved.specs.Marked.{marked}
 use Rattle.figures_proved.specs.Corners.{corners}
 
 pub marked-hold : T (allHold marked)
-unfolding allHold same firstFault stretch among turnsFrom size hostBits holds covers those matching longer longest plain announced withdrawn rowsIn digits afterDigits fieldsOf valueFrom inPlaces valuesOf outOfRange hasHostBits valueFault judgedValues judged readRow rowNumber listAfter rowNumbersFrom rowNumbers width blockHop bit wordFrom wordCount codeWords keptHops wordsOf basesFrom basesOf packedHopsOf covering relabelled firstHalf secondHalf ones onesIn isIn
+unfolding allHold same firstFault stretch among turnsFrom size hostBits holds covers those matching longer longest plain announced withdrawn rowsIn digits afterDigits fieldsOf valueFrom inPlaces valuesOf outOfRange hasHostBits valueFault judgedValues judged readRow rowNumber listAfter rowNumbersFrom rowNumbers width blockHop bit wordFrom wordsFor codeWords keptHops wordsOf basesFrom basesOf packedHopsOf covering relabelled firstHalf secondHalf ones onesIn isIn
 marked-hold = tt
 
 pub corners-hold : T (allHold corners)
-unfolding lower rowLength runRoom buildChecks pairIll pairChecks badPrefix announceChecks announce withdrawChecks withdraw allHold same written rewritten insertedAt removedAt firstFault outcome stretch among turnsFrom halves halving size hostBits isPrefix holds covers every those rowsOf listRoom prefixes hopsGiven ascends ascending halfRows goodRows wellFormed halfFormed matching longer longest plain announced withdrawn lookupChecks halfChecks rowsIn digits afterDigits fieldsOf valueFrom inPlaces valuesOf outOfRange hasHostBits valueFault judgedValues judged readRow rowNumber listAfter rowNumbersFrom rowNumbers listFrom importedList howMany countsOf importChecks import importTally pullOf pull runBytes startAt hopAt inSlices runChecks inBytes width blockHop bit wordFrom wordCount codeWords keptHops wordsOf basesFrom basesOf packedHopsOf blockOf onesTo pastPlace packedChecks covering relabelled firstHalf secondHalf splitChecks decimalBy decimal dottedText rowText textOf writeChecks lineOf nameLines countLines runLines ones onesIn isIn build plainLookup halfLookup runLookup bytesChecks bytesLookup packedLookup split write lookupForC runLookupForC
+unfolding lower rowLength runRoom buildChecks pairIll pairChecks badPrefix announceChecks announce withdrawChecks withdraw allHold same written rewritten insertedAt removedAt firstFault outcome stretch among turnsFrom halves halving size hostBits isPrefix holds covers every those rowsOf listRoom prefixes hopsGiven ascends ascending halfRows goodRows wellFormed halfFormed matching longer longest plain announced withdrawn lookupChecks halfChecks rowsIn digits afterDigits fieldsOf valueFrom inPlaces valuesOf outOfRange hasHostBits valueFault judgedValues judged readRow rowNumber listAfter rowNumbersFrom rowNumbers listFrom importedList howMany countsOf importChecks import importTally pullOf pull runBytes startAt hopAt inSlices runChecks inBytes width blockHop bit wordFrom wordsFor codeWords keptHops wordsOf basesFrom basesOf packedHopsOf blockOf onesTo pastPlace packedChecks covering relabelled firstHalf secondHalf splitChecks decimalBy decimal dottedText rowText textOf writeChecks lineOf nameLines countLines runLines ones onesIn isIn build plainLookup halfLookup runLookup bytesChecks bytesLookup packedLookup split write lookupForC runLookupForC
 corners-hold = tt

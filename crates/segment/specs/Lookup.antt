@@ -9,6 +9,8 @@ use lib.Dec.{leb, ltb, eqb}
 use lib.Count.{ones}
 use Rattle.ground.specs.Numbers.{Check, check, outcome, done, outsidePacked}
 use Rattle.routes.specs.Lookup.{LookupOutcome, lookedUp}
+use Rattle.segment.specs.declared.PackedHop.{PackedHop}
+use Rattle.segment.specs.declared.PackedHop.the-variants.{Hop, Outside}
 
 -- Rule 9.11: the block of an address is its last 16 bits, divided by the size of a block.
 unfoldable pub blockOf : ℕ → ℕ → ℕ
@@ -45,3 +47,8 @@ packedChecks s a =
 -- Rule 9.13: packed lookup. It returns a number and a hop, as a lookup over a list does.
 unfoldable pub packedLookup : SegmentLent → ℕ → LookupOutcome
 packedLookup s a = outcome (packedChecks s a) (λ n. lookedUp n 0) (lookedUp done (getD (s .hops) (pastPlace s a - 1) 0))
+
+-- the same, read from the code's answer
+abbrev pub packedGave : PackedHop → LookupOutcome
+packedGave (Hop h) = lookedUp done h
+packedGave Outside = lookedUp outsidePacked 0

@@ -36,12 +36,12 @@ wordFrom b zero t = 0
 wordFrom b (suc left) t = bitValue (b t) * 2 ^ left + wordFrom b left (suc t)
 
 -- Rule 9.6: there are enough words for n bits.
-unfoldable pub wordCount : ℕ → ℕ
-wordCount n = (n + 15) / 16
+unfoldable pub wordsFor : ℕ → ℕ
+wordsFor n = (n + 15) / 16
 
 -- Rule 9.5: word j has the bits 16j to 16j + 15.
 unfoldable pub codeWords : (ℕ → ℕ) → ℕ → List ℕ
-codeWords hop n = map (λ j. wordFrom (bit hop n) 16 (j * 16)) (stretch 0 (wordCount n))
+codeWords hop n = map (λ j. wordFrom (bit hop n) 16 (j * 16)) (stretch 0 (wordsFor n))
 
 -- Rule 9.7: the base of a word is how many bits are 1 in the words before it.
 unfoldable pub basesFrom : ℕ → List ℕ → List ℕ
