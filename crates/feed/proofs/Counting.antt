@@ -6,15 +6,15 @@ use mathlib.Core.Logic.{_⊎_, inl, inr}
 use mathlib.Core.Bool.{Bool, true, false, _&&_}
 use mathlib.Core.List.{List, [], _∷_, _++_, map}
 use Prim.Native.Nat.{ℕ, zero, suc, _+_, _^_, _≤_, _<_}
-use native.Mathlib.Nat.{zero-add, add-zero}
+use native.Mathlib.Nat.{add-zero}
 use native.Mathlib.Numerals.{add-one}
 use native.Mathlib.Omega.{arith}
-use lib.Dec.{T, eqb}
+use lib.Dec.{eqb}
 use lib.ListN.{length, getD, set, length-append}
 use lib.Seq.{getD-set-same, getD-set-other}
 use borrow.Author.Tests.{eqb-true, eqb-false, eq-eqb, ne-eqb}
 use Rattle.ground.specs.Stretch.{stretch}
-use Rattle.ground.proofs.Truth.{decided, T-true, and-left, and-right}
+use Rattle.ground.proofs.Truth.{decided, and-left, and-right}
 use Rattle.feed.specs.declared.Counts.{Counts}
 use Rattle.feed.specs.RowNumber.{rowTaken, rowShape, rowRange, rowHostBits, rowRepeat, rowNoRoom, NamedRow, rowNames}
 use Rattle.feed.specs.RowNumber.{countIf, howMany, countsOf, rowsWith, rowsNamed}

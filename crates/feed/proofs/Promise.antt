@@ -45,7 +45,7 @@ module _ (feed : List ℕ) (l : ImportLent) {r : Imported} {keys hops report : L
   c = r .counts
 
   abbrev taken : ℕ
-  taken = rowsWith rowTaken (r .counts)
+  taken = rowsWith rowTaken c
 
   accepted : importGave r keys hops report ≡ importAccepted room feed l
   accepted = g ∙ done-is-accepted feed l (sym (ap (λ o. o .number) g) ∙ ap endNumber ended)
@@ -63,11 +63,9 @@ module _ (feed : List ℕ) (l : ImportLent) {r : Imported} {keys hops report : L
   report-is = ap (λ o. o .report) accepted
 
   -- "rows in = rows taken + rows refused, reason by reason"
-  pub rows-are-taken-and-refused : r .counts .rows
-      ≡ rowsWith rowTaken (r .counts)
-      + (rowsWith rowShape (r .counts)
-      + (rowsWith rowRange (r .counts)
-      + (rowsWith rowHostBits (r .counts) + (rowsWith rowRepeat (r .counts) + rowsWith rowNoRoom (r .counts)))))
+  pub rows-are-taken-and-refused : c .rows
+      ≡ rowsWith rowTaken c
+      + (rowsWith rowShape c + (rowsWith rowRange c + (rowsWith rowHostBits c + (rowsWith rowRepeat c + rowsWith rowNoRoom c))))
   rows-are-taken-and-refused = rw counts-are (rows-taken-refused room feed)
 
   numbers-are : c .rows ≡ length (rowNumbers room feed)

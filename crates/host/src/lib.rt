@@ -3,7 +3,6 @@
 ghost use Rattle.host.specs.Exports.{hostImportGave, HostBuilt, packedLookup};
 ghost use Rattle.feed.specs.Import.{import, endNumber};
 ghost use mathlib.Core.Path.{_≡_};
-ghost use Prim.Native.Nat.{_+_, _*_};
 ghost use Rattle.runs.specs.Lookup.{slicesAnswer, hostAnswer};
 use feed::ImportEnd;
 use routes::Looked;

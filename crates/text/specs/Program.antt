@@ -1,5 +1,5 @@
--- "The program reads at most 16,384 bytes from standard input (more: the one line `feed too long`), with room for 1,024 rows." What it writes,
--- as a function of what it is given: the counts, a line each, and the run table of the imported list, a line a run.
+-- "The program reads at most 16,384 bytes from standard input (more: the one line `feed too long`), with room for 1,024 rows." What it
+-- writes, as a function of what it is given: the counts, a line each, and the run table of the imported list, a line a run.
 -- Assumes nothing.
 use mathlib.Core.Bool.{cond}
 use mathlib.Core.List.{List, [], _∷_, _++_}

@@ -51,8 +51,8 @@ struct Fed {
     failed: bool,
 }
 
-// Reads standard input into the front of a buffer until that is full or the input ends. A read that fails is told apart from the end, so that no
-// part of a feed is taken for the whole.
+// Reads standard input into the front of a buffer until that is full or the input ends. A read that fails is told apart from the end,
+// so that no part of a feed is taken for the whole.
 fn read_feed(input: &mut [u8]) -> Fed
     ensures { λ r. ⌜ AtFront (r .bytes) (now (input .exit)) ⌝ }
 {
