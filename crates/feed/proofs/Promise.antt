@@ -6,6 +6,7 @@ use mathlib.Core.Path.{_≡_, sym, ap, _∙_}
 use mathlib.Core.Bool.{true}
 use mathlib.Core.List.{List, []}
 use Prim.Native.Nat.{ℕ, _+_, _≤_, _<_, min}
+use native.Mathlib.Nat.{add-zero}
 use native.Mathlib.Omega.{arith}
 use lib.Dec.{leb}
 use lib.ListN.{length, take, drop, length-map}
@@ -23,7 +24,8 @@ use Rattle.feed.specs.declared.Counts.{Counts}
 use Rattle.feed.specs.declared.Imported.{Imported}
 use Rattle.feed.specs.declared.ImportEnd.the-variants.{Done, ReportShort}
 use Rattle.feed.specs.Rows.{rowsIn}
-use Rattle.feed.specs.RowNumber.{rowTaken, rowShape, rowRange, rowHostBits, rowRepeat, rowNoRoom, countsOf, noCounts, rowsWith}
+use Rattle.feed.specs.RowNumber.{rowTaken, rowShape, rowRange, rowHostBits, rowRepeat, rowNoRoom}
+use Rattle.feed.specs.RowNumber.{reasons, countsOf, noCounts, rowsWith, rowsNamed}
 use Rattle.feed.specs.Import.{rowNumbers, importedList, ImportLent, importRefused, importAccepted, import, endNumber, importGave}
 use Rattle.feed.proofs.Filling.{length-written}
 use Rattle.feed.proofs.Importing.{rows-taken-refused, numbers-of-rows, imported-good, imported-length, imported-in-room}
@@ -66,7 +68,11 @@ module _ (feed : List ℕ) (l : ImportLent) {r : Imported} {keys hops report : L
   pub rows-are-taken-and-refused : c .rows
       ≡ rowsWith rowTaken c
       + (rowsWith rowShape c + (rowsWith rowRange c + (rowsWith rowHostBits c + (rowsWith rowRepeat c + rowsWith rowNoRoom c))))
-  rows-are-taken-and-refused = rw counts-are (rows-taken-refused room feed)
+  unfolding rowsNamed
+  rows-are-taken-and-refused = summed ∙ rw add-zero
+    where
+      summed : c .rows ≡ rowsWith rowTaken c + rowsNamed reasons c
+      summed = rw counts-are (rows-taken-refused room feed)
 
   numbers-are : c .rows ≡ length (rowNumbers room feed)
   unfolding countsOf
