@@ -6,18 +6,16 @@ use mathlib.Core.Logic.{_⊎_, inl, inr}
 use mathlib.Core.Bool.{Bool, true, false, _&&_}
 use mathlib.Core.List.{List, [], _∷_, _++_, map}
 use Prim.Native.Nat.{ℕ, zero, suc, _+_, _^_, _≤_, _<_}
-use native.Mathlib.Nat.{zero-add, add-zero}
 use native.Mathlib.Numerals.{add-one}
 use native.Mathlib.Omega.{arith}
-use lib.Dec.{T, eqb}
+use lib.Dec.{eqb}
 use lib.ListN.{length, getD, set, length-append}
 use lib.Seq.{getD-set-same, getD-set-other}
 use borrow.Author.Tests.{eqb-true, eqb-false, eq-eqb, ne-eqb}
 use Rattle.ground.specs.Stretch.{stretch}
-use Rattle.ground.proofs.Truth.{decided, T-true, and-left, and-right}
+use Rattle.ground.proofs.Truth.{decided, and-left, and-right}
 use Rattle.feed.specs.declared.Counts.{Counts}
-use Rattle.feed.specs.RowNumber.{rowTaken, rowShape, rowRange, rowHostBits, rowRepeat, rowNoRoom, NamedRow, rowNames}
-use Rattle.feed.specs.RowNumber.{countIf, howMany, countsOf, rowsWith, rowsNamed}
+use Rattle.feed.specs.RowNumber.{NamedRow, rowNames, countIf, howMany, countsOf, rowsWith, rowsNamed}
 use Rattle.feed.specs.Inside.Counting.{CountsFit, countedIn}
 
 -- all numbers of a list are in the table of names
@@ -142,11 +140,3 @@ rows-by-name [] a = unfold rowsNamed countsOf howMany stretch in refl
 rows-by-name (n ∷ ns) a =
     rw (counts-first ns n (a .0), named-more rowNames (countsOf ns) n (rw one-count-each (a .0)), named-once n (a .0), add-one)
     (ap suc (rows-by-name ns (a .1)))
-
--- the sum over the table, name by name
-pub each-name : (c : Counts)
-    → rowsNamed rowNames c
-    ≡ rowsWith rowTaken c
-    + (rowsWith rowShape c + (rowsWith rowRange c + (rowsWith rowHostBits c + (rowsWith rowRepeat c + rowsWith rowNoRoom c))))
-unfolding rowsNamed
-each-name c = rw add-zero

@@ -1,5 +1,6 @@
 pub mod Reading
 pub mod Counting
+mod OneRow
 pub mod Importing
 mod Fields
 mod Judging

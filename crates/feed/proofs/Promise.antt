@@ -6,6 +6,7 @@ use mathlib.Core.Path.{_≡_, sym, ap, _∙_}
 use mathlib.Core.Bool.{true}
 use mathlib.Core.List.{List, []}
 use Prim.Native.Nat.{ℕ, _+_, _≤_, _<_, min}
+use native.Mathlib.Nat.{add-zero}
 use native.Mathlib.Omega.{arith}
 use lib.Dec.{leb}
 use lib.ListN.{length, take, drop, length-map}
@@ -23,7 +24,8 @@ use Rattle.feed.specs.declared.Counts.{Counts}
 use Rattle.feed.specs.declared.Imported.{Imported}
 use Rattle.feed.specs.declared.ImportEnd.the-variants.{Done, ReportShort}
 use Rattle.feed.specs.Rows.{rowsIn}
-use Rattle.feed.specs.RowNumber.{rowTaken, rowShape, rowRange, rowHostBits, rowRepeat, rowNoRoom, countsOf, noCounts, rowsWith}
+use Rattle.feed.specs.RowNumber.{rowTaken, rowShape, rowRange, rowHostBits, rowRepeat, rowNoRoom}
+use Rattle.feed.specs.RowNumber.{reasons, countsOf, noCounts, rowsWith, rowsNamed}
 use Rattle.feed.specs.Import.{rowNumbers, importedList, ImportLent, importRefused, importAccepted, import, endNumber, importGave}
 use Rattle.feed.proofs.Filling.{length-written}
 use Rattle.feed.proofs.Importing.{rows-taken-refused, numbers-of-rows, imported-good, imported-length, imported-in-room}
@@ -45,7 +47,7 @@ module _ (feed : List ℕ) (l : ImportLent) {r : Imported} {keys hops report : L
   c = r .counts
 
   abbrev taken : ℕ
-  taken = rowsWith rowTaken (r .counts)
+  taken = rowsWith rowTaken c
 
   accepted : importGave r keys hops report ≡ importAccepted room feed l
   accepted = g ∙ done-is-accepted feed l (sym (ap (λ o. o .number) g) ∙ ap endNumber ended)
@@ -63,12 +65,14 @@ module _ (feed : List ℕ) (l : ImportLent) {r : Imported} {keys hops report : L
   report-is = ap (λ o. o .report) accepted
 
   -- "rows in = rows taken + rows refused, reason by reason"
-  pub rows-are-taken-and-refused : r .counts .rows
-      ≡ rowsWith rowTaken (r .counts)
-      + (rowsWith rowShape (r .counts)
-      + (rowsWith rowRange (r .counts)
-      + (rowsWith rowHostBits (r .counts) + (rowsWith rowRepeat (r .counts) + rowsWith rowNoRoom (r .counts)))))
-  rows-are-taken-and-refused = rw counts-are (rows-taken-refused room feed)
+  pub rows-are-taken-and-refused : c .rows
+      ≡ rowsWith rowTaken c
+      + (rowsWith rowShape c + (rowsWith rowRange c + (rowsWith rowHostBits c + (rowsWith rowRepeat c + rowsWith rowNoRoom c))))
+  unfolding rowsNamed
+  rows-are-taken-and-refused = summed ∙ rw add-zero
+    where
+      summed : c .rows ≡ rowsWith rowTaken c + rowsNamed reasons c
+      summed = rw counts-are (rows-taken-refused room feed)
 
   numbers-are : c .rows ≡ length (rowNumbers room feed)
   unfolding countsOf

@@ -120,9 +120,9 @@ module _ (row : List ℕ) (at m k : ℕ) (h : at ≤ length row) (fs : List Fiel
     pub value-is : value ≡ valueFrom 0 (digits (drop at row))
     pub next-in : next ≤ length row
 
-  pub unlike-none : fieldFrom row at m k ≡ NotOfForm → fieldsOf (field m k ∷ fs) (drop at row) ≡ none
+  pub not-of-form-none : fieldFrom row at m k ≡ NotOfForm → fieldsOf (field m k ∷ fs) (drop at row) ≡ none
   unfolding fieldFrom
-  unlike-none e = go (decided test)
+  not-of-form-none e = go (decided test)
     where
       go : (test ≡ true) ⊎ (test ≡ false) → fieldsOf (field m k ∷ fs) (drop at row) ≡ none
       go (inl t) =
@@ -195,9 +195,9 @@ module _ {row v : List ℕ} {at i : ℕ} (s : Rowing row v at i) (l : i < 5) whe
   abbrev mark : ℕ
   mark = getD marks i 0
 
-  pub rowing-unlike : fieldFrom row at (getD mosts i 0) (getD marks i 0) ≡ NotOfForm → bad rowShape ≡ readRow row
+  pub rowing-not-of-form : fieldFrom row at (getD mosts i 0) (getD marks i 0) ≡ NotOfForm → bad rowShape ≡ readRow row
   unfolding readFrom
-  rowing-unlike e = sym (s .goes-on ∙ rw (form-at i l, unlike-none row at most mark (s .within) (drop (i + 1) form) e))
+  rowing-not-of-form e = sym (s .goes-on ∙ rw (form-at i l, not-of-form-none row at most mark (s .within) (drop (i + 1) form) e))
 
   pub rowing-more : (value next : ℕ) → fieldFrom row at (getD mosts i 0) (getD marks i 0) ≡ Read value next
       → Rowing row (set v i value) next (i + 1)

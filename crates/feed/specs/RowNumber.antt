@@ -1,6 +1,6 @@
 -- The number of a row: 1 shape, 2 range, 3 host bits, 4 repeat, 5 no room, 0 taken. Each number with its name, and how many rows have it:
 -- "seven counts: rows, taken, and numbers 1 to 5".
--- A new row number is its constant, its line in `rowNames`, and its check in the order of checks (`Reading`, `Import`).
+-- A new row number is its constant, its line in `reasons`, and its check in the order of checks (`Reading`, `Import`).
 -- Assumes nothing.
 use mathlib.Core.Bool.{Bool, true, false}
 use mathlib.Core.List.{List, [], _∷_, map}
@@ -37,16 +37,19 @@ pub record NamedRow : Type 0 where
 abbrev pub named : ℕ → String → NamedRow
 named n s = record { number = n; name = s }
 
--- every row number, in the order of the program's lines
-abbrev pub rowNames : List NamedRow
-rowNames =
-    named rowTaken "taken"
-    ∷ named rowShape "shape"
+-- the reasons to refuse a row, in the order of the program's lines
+abbrev pub reasons : List NamedRow
+reasons =
+    named rowShape "shape"
     ∷ named rowRange "range"
     ∷ named rowHostBits "hostbits"
     ∷ named rowRepeat "repeat"
     ∷ named rowNoRoom "noroom"
     ∷ []
+
+-- every row number
+abbrev pub rowNames : List NamedRow
+rowNames = named rowTaken "taken" ∷ reasons
 
 abbrev pub countIf : Bool → ℕ → ℕ
 countIf true n = suc n
@@ -69,7 +72,7 @@ noCounts = record { rows = 0; of = replicate (length rowNames) 0 }
 abbrev pub rowsWith : ℕ → Counts → ℕ
 rowsWith n c = getD (c .of) n 0
 
--- the rows that have one of the numbers of a table
+-- the rows that have one of the numbers of a table, number by number
 unfoldable pub rowsNamed : List NamedRow → Counts → ℕ
 rowsNamed [] c = 0
 rowsNamed (r ∷ rs) c = rowsWith (r .number) c + rowsNamed rs c

@@ -74,7 +74,7 @@ fn digits_from(row: &[u8], at: usize, most: usize) -> Digits
 }
 
 // One number of the form from a place on: 1 to `most` digits and then the mark.
-pub fn field_from(row: &[u8], at: usize, most: usize, mark: u8) -> NumberAt
+pub(crate) fn field_from(row: &[u8], at: usize, most: usize, mark: u8) -> NumberAt
     requires { ⌜ (at ≤ length (now row)) × (most ≤ 5) × (isDigit mark ≡ false) ⌝ }
     ensures { λ r. ⌜ r ≡ fieldFrom (now (row .entry)) at most mark ⌝ }
 {
@@ -151,7 +151,7 @@ fn judge(v: Values) -> RowRead
 }
 
 // What a row says whose first five numbers are read: the hop of 1 to 5 digits ends it.
-pub fn read_hop(row: &[u8], at: usize, v: [u32; 5]) -> RowRead
+pub(crate) fn read_hop(row: &[u8], at: usize, v: [u32; 5]) -> RowRead
     requires { ⌜ (at ≤ length (now row)) × (length v ≡ 5) ⌝ }
     ensures { λ r. ⌜ readingOf r ≡ readFrom v (fieldsOf [] (drop at (now (row .entry)))) ⌝ }
 {
