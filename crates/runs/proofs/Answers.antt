@@ -89,7 +89,10 @@ start-here bytes i = rw add-zero
 module _ {bytes : List ℕ} {a place apart : ℕ} (s : RunsHalved bytes a place apart) where
   pub runs-narrowed : {start place′ apart′ : ℕ} → 1 < apart → start ≡ fourFrom bytes (place * 6)
       → Narrowed (ltb a start) place apart place′ apart′ → RunsHalved bytes a place′ apart′
-  runs-narrowed far four t = record { probes = s .probes + 1; probing = probing-narrowed (s .probing) far (rw (four ∙ start-here bytes place) at t) }
+  runs-narrowed far four t = record {
+    probes = s .probes + 1;
+    probing = probing-narrowed (s .probing) far (rw (four ∙ start-here bytes place) at t);
+  }
 
   pub runs-end : apart ≤ 1 → hostNumber bytes ≡ 0 → getD bytes (place * 6 + 4) 0 * 256 + getD bytes (place * 6 + 5) 0 ≡ hostAnswer bytes a
   unfolding hostAnswer hostHop inBytes hopAt ifDone

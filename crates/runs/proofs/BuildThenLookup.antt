@@ -1,4 +1,5 @@
--- Demand 2, from the contracts alone: where a build was accepted, run lookup in what it left gives at every address what plain lookup gives.
+-- Demand 2, from the contracts alone: where a build was accepted, run lookup in what it left gives at every address what plain lookup
+-- gives.
 -- Assumes nothing.
 use mathlib.Core.Path.{_≡_, sym, ap, _∙_}
 use mathlib.Core.Logic.{⊎-elim}
@@ -30,7 +31,8 @@ same-count : (count : ℕ) (keys hops : List ℕ) → length (runHops (rowsOf co
 unfolding runHops runHopsOf runStarts
 same-count count keys hops = length-map (startsOf (plain (rowsOf count keys hops))) (plain (rowsOf count keys hops))
 
-module _ {count n : ℕ} {keys hops starts rhops starts′ rhops′ : List ℕ} (b : BuiltFrom count keys hops starts rhops (Runs n) starts′ rhops′) where
+module _ {count n : ℕ} {keys hops starts rhops starts′ rhops′ : List ℕ}
+    (b : BuiltFrom count keys hops starts rhops (Runs n) starts′ rhops′) where
   accepted : eqb (buildNumber count keys hops starts rhops) 0 ≡ true
   accepted = ap (λ x. eqb x 0) (sym (b .number))
 
@@ -58,8 +60,8 @@ module _ {count n : ℕ} {keys hops starts rhops starts′ rhops′ : List ℕ} 
   unfolding lookupHop lookupNumber lookupChecks firstFault ifDone
   plain-answers a = rw well
 
-  pub build-then-lookup : {a : ℕ} {r : Probed} {p : Looked} → a < addresses → RunLookedUp n starts′ rhops′ a r → LookedUp count keys hops a p
-      → (probedNumber r ≡ 0) × (probedHop r ≡ lookedHop p)
+  pub build-then-lookup : {a : ℕ} {r : Probed} {p : Looked} → a < addresses → RunLookedUp n starts′ rhops′ a r
+      → LookedUp count keys hops a p → (probedNumber r ≡ 0) × (probedHop r ≡ lookedHop p)
   build-then-lookup {a} l r p =
       let found = looked-up-plain (rowsOf count keys hops) n starts′ rhops′ count-is starts-are hops-are r l in
       (found .0, found .1 ∙ sym (p .hop ∙ plain-answers a))

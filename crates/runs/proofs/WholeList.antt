@@ -29,7 +29,7 @@ use Rattle.runs.specs.Build.{runRoom, buildChecks, buildNumber, buildCou
 use Rattle.runs.specs.Pair.{Pair, pairIll, itsRuns, pairChecks, pairNumber}
 use Rattle.runs.specs.Answers.{BuiltFrom}
 use Rattle.sweep.specs.Sweep.{lastOr, allRows, answer, Sorted, RunsWritten, areRuns}
-use Rattle.sweep.proofs.Sweep.{in-order}
+use Rattle.sweep.proofs.Sorted.{in-order}
 use Rattle.runs.specs.Inside.RowsBuilt.{RowsBuilt}
 use Rattle.runs.proofs.Table.{runs-at-most}
 
@@ -119,7 +119,8 @@ module _ {keys hops : List ℕ} (s : Sorted keys hops) (starts rhops : List ℕ)
         let few = leb-true (length (runStarts (allRows keys hops))) (runRoom starts rhops) e in
         (omega (arith, whole-count s), omega (arith, whole-count s))
 
-    pub rows-runs : {n : ℕ} {starts′ rhops′ : List ℕ} → RunsWritten (answer 0 (allRows keys hops)) 0 4294967296 starts rhops n starts′ rhops′
+    pub rows-runs : {n : ℕ} {starts′ rhops′ : List ℕ}
+        → RunsWritten (answer 0 (allRows keys hops)) 0 4294967296 starts rhops n starts′ rhops′
         → RowsBuilt (allRows keys hops) starts rhops (B.Runs n) starts′ rhops′
     rows-runs w =
         let fits = le-ltb (runRoom starts rhops) (length (runStarts (allRows keys hops))) (leb-true _ _ e) in
@@ -181,8 +182,8 @@ module _ (p : Pair) where
 
     module _ (l : p .runs ≤ runRoom (p .starts) (p .rhops)) where
       pub its : {b : Bool}
-          → b ≡ areRuns (answer 0 (allRows (take (p .count) (p .keys)) (take (p .count) (p .hops)))) 0 4294967296 (take (p .runs) (p .starts))
-          (take (p .runs) (p .rhops))
+          → b ≡ areRuns (answer 0 (allRows (take (p .count) (p .keys)) (take (p .count) (p .hops)))) 0 4294967296
+          (take (p .runs) (p .starts)) (take (p .runs) (p .rhops))
           → itsRuns p ≡ b
       unfolding itsRuns areRuns
       its q =

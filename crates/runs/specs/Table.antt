@@ -20,7 +20,8 @@ pub record RunTable (f : ℕ → ℕ) (starts hops : List ℕ) : Type 0 where
   pub ascend : (i : ℕ) → i + 1 < length starts → getD starts i 0 < getD starts (i + 1) 0
   pub below : (i : ℕ) → i < length starts → getD starts i 0 < addresses
   pub differ : (i : ℕ) → i + 1 < length starts → getD hops i 0 ≡ getD hops (i + 1) 0 → ⊥
-  pub answers : (i a : ℕ) → i < length starts → getD starts i 0 ≤ a → a < addresses → (i + 1 < length starts → a < getD starts (i + 1) 0) → getD hops i 0 ≡ f a
+  pub answers : (i a : ℕ) → i < length starts → getD starts i 0 ≤ a → a < addresses
+      → (i + 1 < length starts → a < getD starts (i + 1) 0) → getD hops i 0 ≡ f a
 
 -- the starts of the run table of f: the addresses at which f turns
 pub startsOf : (ℕ → ℕ) → List ℕ
