@@ -1,4 +1,5 @@
--- Demand 2, from the contracts alone: where a build was accepted, run lookup in what it left gives at every address what plain lookup gives.
+-- Demand 2, from the contracts alone: where a build was accepted, run lookup in what it left gives at every address what plain lookup
+-- gives.
 -- Assumes nothing.
 use mathlib.Core.Path.{_≡_, sym, ap, _∙_}
 use mathlib.Core.Logic.{⊎-elim}

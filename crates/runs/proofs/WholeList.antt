@@ -26,7 +26,7 @@ use Rattle.runs.specs.Table.Laws.{starts-are}
 use Rattle.runs.specs.Build.{slotsLent, built, runRoom}
 use Rattle.runs.specs.Inside.Rows.{buildRows}
 use Rattle.sweep.specs.Sweep.{lastOr, allRows, answer, Sorted, RunsWritten}
-use Rattle.sweep.proofs.Sweep.{in-order}
+use Rattle.sweep.proofs.Sorted.{in-order}
 use Rattle.runs.proofs.Table.{runs-at-most}
 
 -- the hop that a walk over the rows keeps is that of the last row that holds the address

@@ -1,5 +1,6 @@
--- What the functions of the sweep promise each other; no public promise cites this. The sweep goes through the rows in key order with a
--- stack of the open prefixes, those that hold the present address: `ends` has one past each one's last address, `labels` its hop.
+-- What the functions of the sweep promise each other and the crates above; no promise to a caller of the library cites this. The sweep goes
+-- through the rows in key order with a stack of the open prefixes, those that hold the present address: `ends` has one past each one's last
+-- address, `open-hops` its hop.
 -- Assumes nothing.
 use mathlib.Core.Path.{_≡_}
 use mathlib.Core.Bool.{Bool, true, _&&_}
@@ -41,50 +42,50 @@ From keys start = (i : ℕ) → i < length keys → start ≤ network (getD keys
 
 -- the stack at an address: of the first `row` rows, whose networks are at most the address, it has those that hold the address, in their
 -- order; the networks of the rows from there on are at least `next`
-pub record Stack (keys hops ends labels : List ℕ) (row depth at next : ℕ) : Type 0 where
+pub record Stack (keys hops ends open-hops : List ℕ) (row depth at next : ℕ) : Type 0 where
   pub within : row ≤ length keys
   pub passed : (i : ℕ) → i < row → network (getD keys i 0) ≤ at
   pub ahead : (i : ℕ) → row ≤ i → i < length keys → next ≤ network (getD keys i 0)
   pub deep : depth ≡ length (matching at (rowsOf row keys hops))
   pub ends-are : take depth ends ≡ endsOf (matching at (rowsOf row keys hops))
-  pub labels-are : take depth labels ≡ hopsOf (matching at (rowsOf row keys hops))
+  pub hops-are : take depth open-hops ≡ hopsOf (matching at (rowsOf row keys hops))
   pub ends-room : length ends ≡ 33
-  pub labels-room : length labels ≡ 33
+  pub hops-room : length open-hops ≡ 33
 
 -- at most 33 prefixes are open, and their ends fall, or stay, from each to the next
 pub record Falling (ends : List ℕ) (depth : ℕ) : Type 0 where
   pub few : depth ≤ 33
   pub falls : (i j : ℕ) → i ≤ j → j < depth → getD ends j 0 ≤ getD ends i 0
 
--- of the first `depth` ends, those that are above b are the first d
-pub record Closed (ends : List ℕ) (depth b d : ℕ) : Type 0 where
+-- of the first `depth` ends, those that are past the address `to` are the first d
+pub record Closed (ends : List ℕ) (depth to d : ℕ) : Type 0 where
   pub upto : d ≤ depth
-  pub kept : (i : ℕ) → i < d → b < getD ends i 0
-  pub gone : (i : ℕ) → d ≤ i → i < depth → getD ends i 0 ≤ b
+  pub kept : (i : ℕ) → i < d → to < getD ends i 0
+  pub gone : (i : ℕ) → d ≤ i → i < depth → getD ends i 0 ≤ to
 
 -- before the next event: the address is below the limit, at most 33 prefixes are open, and the next row and the end of the last open prefix
 -- are past the address
-pub record Poised (keys ends : List ℕ) (row depth at limit : ℕ) : Type 0 where
+pub record BeforeEvent (keys ends : List ℕ) (row depth at limit : ℕ) : Type 0 where
   pub before : at < limit
   pub few : depth ≤ 33
   pub row-past : row < length keys → at < network (getD keys row 0)
   pub end-past : 0 < depth → at < getD ends (depth - 1) 0
 
--- b is past the address, and no row begins, no open prefix ends and the limit isn't reached before it
-pub record Event (keys ends : List ℕ) (row depth at limit b : ℕ) : Type 0 where
-  pub past : at < b
-  pub upto : b ≤ limit
-  pub row-to : row < length keys → b ≤ network (getD keys row 0)
-  pub end-to : 0 < depth → b ≤ getD ends (depth - 1) 0
+-- the event is past the address, and before it no row begins, no open prefix ends and the limit isn't reached
+pub record Event (keys ends : List ℕ) (row depth at limit event : ℕ) : Type 0 where
+  pub past : at < event
+  pub upto : event ≤ limit
+  pub row-to : row < length keys → event ≤ network (getD keys row 0)
+  pub end-to : 0 < depth → event ≤ getD ends (depth - 1) 0
 
--- from `at` the sweep went on to at′: between them the answer is what it was, and at′ is the limit, or the answer turns there and the stack is
--- that of at′
-pub record Turned (keys hops ends labels : List ℕ) (base limit at row depth at′ : ℕ) : Type 0 where
+-- from `at` the sweep went on to at′: between them the answer is what it was, and at′ is the limit, or the answer turns there and the stack
+-- is that of at′
+pub record Turned (keys hops ends open-hops : List ℕ) (base limit at row depth at′ : ℕ) : Type 0 where
   pub past : at < at′
   pub upto : at′ ≤ limit
   pub stays : (a : ℕ) → at ≤ a → a < at′ → answer base (allRows keys hops) a ≡ answer base (allRows keys hops) at
   pub turned : at′ < limit → answer base (allRows keys hops) at′ ≡ answer base (allRows keys hops) at → ⊥
-  pub stands : at′ < limit → Stack keys hops ends labels row depth at′ (at′ + 1)
+  pub stands : at′ < limit → Stack keys hops ends open-hops row depth at′ (at′ + 1)
 
 -- the runs of f from the start up to the limit were written from the front, and nothing else
 pub record RunsWritten (f : ℕ → ℕ) (start limit : ℕ) (starts rhops : List ℕ) (n : ℕ) (starts′ rhops′ : List ℕ) : Type 0 where

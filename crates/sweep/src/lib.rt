@@ -5,12 +5,12 @@ ghost use mathlib.Core.Path.{_≡_};
 ghost use Prim.Native.Nat.{_+_, _-_, _≤_, _<_};
 ghost use lib.ListN.{length, take};
 ghost use Rattle.ground.specs.Stretch.{counted, turnsFrom};
-ghost use Rattle.sweep.specs.Sweep.{lastOr, allRows, answer, Sorted, From, Stack, Falling, Closed, Poised, Event, Turned};
+ghost use Rattle.sweep.specs.Sweep.{lastOr, allRows, answer, Sorted, From, Stack, Falling, Closed, BeforeEvent, Event, Turned};
 ghost use Rattle.sweep.specs.Sweep.{RunsWritten, areRuns};
 
 // The sweep goes through the rows in key order with a stack of the open prefixes, those that hold the present address: `ends` has one past
-// each one's last address and `labels` its hop. A later prefix lies in those before it, so at most 33 are open, and the last one's hop is
-// the answer, or the base hop where none is open. Each row is opened and closed once.
+// each one's last address and `open_hops` its hop. A later prefix lies in those before it, so at most 33 are open, and the last one's hop
+// is the answer, or the base hop where none is open. Each row is opened and closed once.
 // Where the sweep stands: the next row, how many prefixes are open, and the address, which past 255.255.255.255 is 2^32.
 pub struct Standing {
     pub row: usize,
@@ -18,14 +18,14 @@ pub struct Standing {
     pub at: u64,
 }
 
-// The open prefixes that end at b or before are closed: how many stay open.
-fn close_ended(ends: &[u64; 33], depth: usize, b: u64) -> usize
+// The open prefixes that end at `to` or before are closed: how many stay open.
+fn close_ended(ends: &[u64; 33], depth: usize, to: u64) -> usize
     requires { ⌜ Falling (now ends) depth ⌝ }
-    ensures { λ r. ⌜ Closed (now (ends .entry)) depth b r ⌝ }
+    ensures { λ r. ⌜ Closed (now (ends .entry)) depth to r ⌝ }
 {
     let mut d = depth;
     while 0 < d {
-        if b < ends[d - 1] {
+        if to < ends[d - 1] {
             return d;
         }
         d -= 1;
@@ -39,13 +39,14 @@ fn open_here(
     hops: &[u16],
     s: Standing,
     ends: &mut [u64; 33],
-    labels: &mut [u16; 33],
+    open_hops: &mut [u16; 33],
 ) -> Standing
     requires { ⌜ Sorted (now keys) (now hops)
-        × Stack (now keys) (now hops) (now ends) (now labels) (s .row) (s .depth) (s .at) (s .at) ⌝ }
+        × Stack (now keys) (now hops) (now ends) (now open_hops) (s .row) (s .depth) (s .at) (s .at) ⌝ }
     ensures { λ r.
         ⌜ (r .at ≡ s .at)
-        × Stack (now (keys .entry)) (now (hops .entry)) (now (ends .exit)) (now (labels .exit)) (r .row) (r .depth) (s .at) (s .at + 1) ⌝ }
+        × Stack (now (keys .entry)) (now (hops .entry)) (now (ends .exit)) (now (open_hops .exit))
+        (r .row) (r .depth) (s .at) (s .at + 1) ⌝ }
 {
     let at = s.at;
     let mut row = s.row;
@@ -56,89 +57,98 @@ fn open_here(
             return Standing { row, depth, at };
         }
         ends[depth] = cidr::end_of(key);
-        labels[depth] = hops[row];
+        open_hops[depth] = hops[row];
         depth += 1;
         row += 1;
     }
     Standing { row, depth, at }
 }
 
-// The sweep stands at an address before which no row begins: from an empty stack, the rows that begin there are opened. The whole table starts
-// at address 0; an edit can start at its prefix's network, over the rows inside it.
+// The sweep stands at an address before which no row begins: from an empty stack, the rows that begin there are opened. The whole table
+// starts at address 0; an edit can start at its prefix's network, over the rows inside it.
 pub fn begin(
     keys: &[u64],
     hops: &[u16],
     start: u64,
     ends: &mut [u64; 33],
-    labels: &mut [u16; 33],
+    open_hops: &mut [u16; 33],
 ) -> Standing
-    requires { ⌜ Sorted (now keys) (now hops) × From (now keys) start × (length (now ends) ≡ 33) × (length (now labels) ≡ 33) ⌝ }
+    requires { ⌜ Sorted (now keys) (now hops)
+        × From (now keys) start
+        × (length (now ends) ≡ 33)
+        × (length (now open_hops) ≡ 33) ⌝ }
     ensures { λ r.
         ⌜ (r .at ≡ start)
-        × Stack (now (keys .entry)) (now (hops .entry)) (now (ends .exit)) (now (labels .exit)) (r .row) (r .depth) start (start + 1) ⌝ }
+        × Stack (now (keys .entry)) (now (hops .entry)) (now (ends .exit)) (now (open_hops .exit))
+        (r .row) (r .depth) start (start + 1) ⌝ }
 {
     let s = Standing {
         row: 0,
         depth: 0,
         at: start,
     };
-    open_here(keys, hops, s, ends, labels)
+    open_here(keys, hops, s, ends, open_hops)
 }
 
 // The next address at which a prefix opens or closes, or the limit; promised is that there is no such address before it.
 fn next_event(keys: &[u64], ends: &[u64; 33], s: Standing, limit: u64) -> u64
-    requires { ⌜ Poised (now keys) (now ends) (s .row) (s .depth) (s .at) limit ⌝ }
+    requires { ⌜ BeforeEvent (now keys) (now ends) (s .row) (s .depth) (s .at) limit ⌝ }
     ensures { λ r. ⌜ Event (now (keys .entry)) (now (ends .entry)) (s .row) (s .depth) (s .at) limit r ⌝ }
 {
-    let mut b = limit;
+    let mut event = limit;
     let row = s.row;
     let depth = s.depth;
     if row < keys.len() {
         let net = cidr::network(keys[row]);
-        if net < b {
-            b = net;
+        if net < event {
+            event = net;
         }
     }
     if 0 < depth {
         let end = ends[depth - 1];
-        if end < b {
-            b = end;
+        if end < event {
+            event = end;
         }
     }
-    b
+    event
 }
 
-// The sweep moves on to b, up to which no row opens.
+// The sweep moves on to an address up to which no row opens.
 fn step(
     keys: &[u64],
     hops: &[u16],
     s: Standing,
-    b: u64,
+    to: u64,
     ends: &mut [u64; 33],
-    labels: &mut [u16; 33],
+    open_hops: &mut [u16; 33],
 ) -> Standing
     requires { ⌜ Sorted (now keys) (now hops)
-        × Stack (now keys) (now hops) (now ends) (now labels) (s .row) (s .depth) (s .at) b
-        × (s .at ≤ b) ⌝ }
+        × Stack (now keys) (now hops) (now ends) (now open_hops) (s .row) (s .depth) (s .at) to
+        × (s .at ≤ to) ⌝ }
     ensures { λ r.
-        ⌜ (r .at ≡ b)
-        × Stack (now (keys .entry)) (now (hops .entry)) (now (ends .exit)) (now (labels .exit)) (r .row) (r .depth) b (b + 1) ⌝ }
+        ⌜ (r .at ≡ to)
+        × Stack (now (keys .entry)) (now (hops .entry)) (now (ends .exit)) (now (open_hops .exit))
+        (r .row) (r .depth) to (to + 1) ⌝ }
 {
-    let depth = close_ended(&*ends, s.depth, b);
+    let depth = close_ended(&*ends, s.depth, to);
     let closed = Standing {
         row: s.row,
         depth,
-        at: b,
+        at: to,
     };
-    open_here(keys, hops, closed, ends, labels)
+    open_here(keys, hops, closed, ends, open_hops)
 }
 
 // The answer where the sweep stands.
-pub fn top_hop(labels: &[u16; 33], depth: usize, base: u16) -> u16
-    requires { ⌜ (depth ≤ 33) × (length (now labels) ≡ 33) ⌝ }
-    ensures { λ r. ⌜ r ≡ lastOr base (take depth (now (labels .entry))) ⌝ }
+pub fn top_hop(open_hops: &[u16; 33], depth: usize, base: u16) -> u16
+    requires { ⌜ (depth ≤ 33) × (length (now open_hops) ≡ 33) ⌝ }
+    ensures { λ r. ⌜ r ≡ lastOr base (take depth (now (open_hops .entry))) ⌝ }
 {
-    if 0 < depth { labels[depth - 1] } else { base }
+    if depth == 0 {
+        base
+    } else {
+        open_hops[depth - 1]
+    }
 }
 
 // The sweep moves on to the next address where the answer turns, or to the limit.
@@ -147,30 +157,30 @@ pub fn next_turn(
     hops: &[u16],
     base: u16,
     limit: u64,
-    start: Standing,
+    from: Standing,
     ends: &mut [u64; 33],
-    labels: &mut [u16; 33],
+    open_hops: &mut [u16; 33],
 ) -> Standing
     requires { ⌜ Sorted (now keys) (now hops)
-        × Stack (now keys) (now hops) (now ends) (now labels) (start .row) (start .depth) (start .at) (start .at + 1)
-        × (start .at < limit) ⌝ }
+        × Stack (now keys) (now hops) (now ends) (now open_hops) (from .row) (from .depth) (from .at) (from .at + 1)
+        × (from .at < limit) ⌝ }
     ensures { λ r.
-        ⌜ Turned (now (keys .entry)) (now (hops .entry)) (now (ends .exit)) (now (labels .exit)) base limit (start .at)
-        (r .row) (r .depth) (r .at) ⌝ }
+        ⌜ Turned (now (keys .entry)) (now (hops .entry)) (now (ends .exit)) (now (open_hops .exit)) base limit
+        (from .at) (r .row) (r .depth) (r .at) ⌝ }
 {
-    let hop = top_hop(&*labels, start.depth, base);
-    let mut s = start;
+    let hop = top_hop(&*open_hops, from.depth, base);
+    let mut s = from;
     loop {
-        let b = next_event(keys, &*ends, s, limit);
-        if limit <= b {
+        let event = next_event(keys, &*ends, s, limit);
+        if limit <= event {
             return Standing {
                 row: s.row,
                 depth: s.depth,
                 at: limit,
             };
         }
-        s = step(keys, hops, s, b, ends, labels);
-        if top_hop(&*labels, s.depth, base) != hop {
+        s = step(keys, hops, s, event, ends, open_hops);
+        if top_hop(&*open_hops, s.depth, base) != hop {
             return s;
         }
     }
@@ -178,17 +188,20 @@ pub fn next_turn(
 
 // How many runs the rows have from the start up to the limit.
 pub fn count_runs(keys: &[u64], hops: &[u16], base: u16, start: u64, limit: u64) -> usize
-    requires { ⌜ Sorted (now keys) (now hops) × From (now keys) start × (start ≤ limit) × (limit ≤ 4294967296) ⌝ }
+    requires { ⌜ Sorted (now keys) (now hops)
+        × From (now keys) start
+        × (start ≤ limit)
+        × (limit ≤ 4294967296) ⌝ }
     ensures { λ r.
         ⌜ r ≡ counted (turnsFrom start (answer base (allRows (now (keys .entry)) (now (hops .entry))))) start (limit - start) ⌝ }
 {
     let mut ends = [0u64; 33];
-    let mut labels = [0u16; 33];
-    let mut s = begin(keys, hops, start, &mut ends, &mut labels);
+    let mut open_hops = [0u16; 33];
+    let mut s = begin(keys, hops, start, &mut ends, &mut open_hops);
     let mut n = 0;
     while s.at < limit {
         n += 1;
-        s = next_turn(keys, hops, base, limit, s, &mut ends, &mut labels);
+        s = next_turn(keys, hops, base, limit, s, &mut ends, &mut open_hops);
     }
     n
 }
@@ -210,18 +223,18 @@ pub fn write_runs(
         × (counted (turnsFrom start (answer base (allRows (now keys) (now hops)))) start (limit - start) ≤ length (now starts))
         × (counted (turnsFrom start (answer base (allRows (now keys) (now hops)))) start (limit - start) ≤ length (now rhops)) ⌝ }
     ensures { λ r.
-        ⌜ RunsWritten (answer base (allRows (now (keys .entry)) (now (hops .entry)))) start limit (now (starts .entry)) (now (rhops .entry))
-        r (now (starts .exit)) (now (rhops .exit)) ⌝ }
+        ⌜ RunsWritten (answer base (allRows (now (keys .entry)) (now (hops .entry)))) start limit
+        (now (starts .entry)) (now (rhops .entry)) r (now (starts .exit)) (now (rhops .exit)) ⌝ }
 {
     let mut ends = [0u64; 33];
-    let mut labels = [0u16; 33];
-    let mut s = begin(keys, hops, start, &mut ends, &mut labels);
+    let mut open_hops = [0u16; 33];
+    let mut s = begin(keys, hops, start, &mut ends, &mut open_hops);
     let mut n = 0;
     while s.at < limit {
         starts[n] = s.at as u32;
-        rhops[n] = top_hop(&labels, s.depth, base);
+        rhops[n] = top_hop(&open_hops, s.depth, base);
         n += 1;
-        s = next_turn(keys, hops, base, limit, s, &mut ends, &mut labels);
+        s = next_turn(keys, hops, base, limit, s, &mut ends, &mut open_hops);
     }
     n
 }
@@ -242,11 +255,12 @@ pub fn same_runs(
         × (limit ≤ 4294967296)
         × (length (now rhops) ≡ length (now starts)) ⌝ }
     ensures { λ r.
-        ⌜ r ≡ areRuns (answer base (allRows (now (keys .entry)) (now (hops .entry)))) start limit (now (starts .entry)) (now (rhops .entry)) ⌝ }
+        ⌜ r ≡ areRuns (answer base (allRows (now (keys .entry)) (now (hops .entry)))) start limit
+        (now (starts .entry)) (now (rhops .entry)) ⌝ }
 {
     let mut ends = [0u64; 33];
-    let mut labels = [0u16; 33];
-    let mut s = begin(keys, hops, start, &mut ends, &mut labels);
+    let mut open_hops = [0u16; 33];
+    let mut s = begin(keys, hops, start, &mut ends, &mut open_hops);
     let mut n = 0;
     while s.at < limit {
         if starts.len() <= n {
@@ -255,11 +269,11 @@ pub fn same_runs(
         if starts[n] as u64 != s.at {
             return false;
         }
-        if rhops[n] != top_hop(&labels, s.depth, base) {
+        if rhops[n] != top_hop(&open_hops, s.depth, base) {
             return false;
         }
         n += 1;
-        s = next_turn(keys, hops, base, limit, s, &mut ends, &mut labels);
+        s = next_turn(keys, hops, base, limit, s, &mut ends, &mut open_hops);
     }
     n == starts.len()
 }

@@ -15,9 +15,14 @@ use Rattle.runs.proofs.build.Tie as tie
 list-ok-requires : tie.Need-list-ok-requires
 list-ok-requires c κs = search needs
 
+-- the call, from the list test
+abbrev called : tie.After-list-ok → tie.Start
+called c =
+    let slices = c .before in
+    slices .before .before .before .before
+
 -- what the branch past the list test knows
-ok : (c : tie.Else1)
-    → let a = c .before .before .before .before .before .before .args in wellFormed (a .count) (now (a .keys)) (now (a .hops)) ≡ true
+ok : (c : tie.Else1) → let a = called (c .before) .args in wellFormed (a .count) (now (a .keys)) (now (a .hops)) ≡ true
 ok c = list-test _ _ _ (c .before .list-ok .ensures) ∙ not-false _ (c .if1 .left)
 
 returns : tie.Need-returns
@@ -40,8 +45,10 @@ same-length-2 c = search needs
 
 returns-2 : tie.Need-returns-2
 returns-2 c =
-    let fine = ok (c .before .before .before .before .before .before .before .before .before) in
-    rw (slices-rows _ _ _ fine) at (c .before .before .before .before .build-rows .ensures) ∙ sym (build-well _ _ fine)
+    let built = c .before .before .before .before in
+    let lent = built .before in
+    let fine = ok (lent .before .before .before .before) in
+    rw (slices-rows _ _ _ fine) at (built .build-rows .ensures) ∙ sym (build-well _ _ fine)
 
 pub build-spec : {M : Type 1} → statement M
 build-spec =

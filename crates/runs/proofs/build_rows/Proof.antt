@@ -27,21 +27,28 @@ same-length c = search needs
 same-length-2 : tie.Need-same-length-2
 same-length-2 c = search needs
 
+-- the call, from the room
+abbrev called : tie.After-run-room → tie.Start
+called c =
+    let slices = c .before .before .before in
+    slices .before .before .before .before
+
 -- what the branch past the room test knows
-enough : (c : tie.Else1) → let a = c .before .before .before .before .before .before .before .before .before .args in
+enough : (c : tie.Else1) → let a = called (c .before .before) .args in
     leb (length (runStarts (allRows (now (a .keys)) (now (a .hops))))) (runRoom (now (a .starts)) (now (a .rhops))) ≡ true
 enough c = rw (sym (c .before .before .run-room .ensures)) (sym (c .before .room-enough .ensures) ∙ not-false _ (c .if1 .left))
 
 returns : tie.Need-returns
 returns c =
-    let start = c .before .before .before .before .before .before .before .before .before in
-    rows-no-room (start .pre) _ _
-    (rw (sym (c .before .before .run-room .ensures)) (sym (c .before .room-enough .ensures) ∙ not-true _ (c .if1 .taken)))
+    let room = c .before .before in
+    rows-no-room (called room .pre) _ _
+    (rw (sym (room .run-room .ensures)) (sym (c .before .room-enough .ensures) ∙ not-true _ (c .if1 .taken)))
 
 write-runs-requires : tie.Need-write-runs-requires
 write-runs-requires c κs =
-    let pre = c .before .before .before .before .before .before .before .before .before .before .before .pre in
-    let room = room-for-runs pre _ _ (enough (c .before .before)) in
+    let fits = c .before .before in
+    let pre = called (fits .before .before) .pre in
+    let room = room-for-runs pre _ _ (enough fits) in
     (pre, (λ i l. omega arith), omega arith, omega arith, room .0, room .1)
 
 same-length-3 : tie.Need-same-length-3
@@ -54,8 +61,7 @@ returns-2 : tie.Need-returns-2
 returns-2 c =
     let written = c .before .before .before .before in
     let fits = written .before .before .before in
-    let start = fits .before .before .before .before .before .before .before .before .before in
-    rows-runs (start .pre) _ _ (enough fits) (written .write-runs .ensures)
+    rows-runs (called (fits .before .before) .pre) _ _ (enough fits) (written .write-runs .ensures)
 
 pub build-rows-spec : {M : Type 1} → statement M
 build-rows-spec =

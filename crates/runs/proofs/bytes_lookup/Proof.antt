@@ -35,7 +35,9 @@ loop-less : tie.Need-loop-less Inv-loop μ-loop
 loop-less c = narrowed-closer (c .narrow .ensures) (omega arith)
 
 loop-again : tie.Need-loop-again Inv-loop μ-loop
-loop-again c = runs-narrowed (c .before .before .before .before .before .loop .inv) (omega arith) (c .before .start-from .ensures) (c .narrow .ensures)
+loop-again c =
+    let probe = c .before in
+    runs-narrowed (probe .before .before .before .before .loop .inv) (omega arith) (probe .start-from .ensures) (c .narrow .ensures)
 
 mul-hop-from : tie.Need-mul-hop-from Inv-loop μ-loop
 mul-hop-from c = omega (arith, probing-bounds (c .before .before .before .loop .inv .probing))
@@ -44,7 +46,9 @@ hop-from-requires : tie.Need-hop-from-requires Inv-loop μ-loop
 hop-from-requires c κs = omega (arith, probing-bounds (c .before .before .before .loop .inv .probing))
 
 returns-3 : tie.Need-returns-3 Inv-loop μ-loop
-returns-3 c = runs-end (c .before .before .before .before .loop .inv) (omega arith) (sixes-accepted _ (omega arith) (omega arith)) (c .hop-from .ensures)
+returns-3 c =
+    let l = c .before .before .before .before .loop in
+    runs-end (l .inv) (omega arith) (sixes-accepted _ (omega arith) (omega arith)) (c .hop-from .ensures)
 
 pub bytes-lookup-spec : {M : Type 1} → statement M
 bytes-lookup-spec =

@@ -19,14 +19,22 @@ use Rattle.runs.proofs.pair_check.Tie as tie
 list-ok-requires : tie.Need-list-ok-requires
 list-ok-requires c κs = search needs
 
+-- the call, from the list test, and the branch past the room test, from the comparing
+abbrev called : tie.After-list-ok → tie.Start
+called c =
+    let slices = c .before in
+    slices .before .before .before .before
+
+abbrev in-room : tie.After-same-runs → tie.Else2
+in-room c =
+    let lent = c .before in
+    lent .before .before .before .before
+
 -- what the branches past the list test and past the room test know
-ok : (c : tie.Else1)
-    → let a = c .before .before .before .before .before .before .args in wellFormed (a .count) (now (a .keys)) (now (a .hops)) ≡ true
+ok : (c : tie.Else1) → let a = called (c .before) .args in wellFormed (a .count) (now (a .keys)) (now (a .hops)) ≡ true
 ok c = list-test _ _ _ (c .before .list-ok .ensures) ∙ not-false _ (c .if1 .left)
 
-room : (c : tie.Else2)
-    → let a = c .before .before .before .before .before .before .before .before .args in
-    a .runs ≤ runRoom (now (a .starts)) (now (a .rhops))
+room : (c : tie.Else2) → let a = called (c .before .before .before) .args in a .runs ≤ runRoom (now (a .starts)) (now (a .rhops))
 room c = rw (sym (c .before .run-room .ensures)) (c .if2 .left)
 
 returns : tie.Need-returns
@@ -57,14 +65,16 @@ same-runs-requires c κs =
 
 returns-3 : tie.Need-returns-3
 returns-3 c =
-    let fine = ok (c .before .before .before .before .before .before .before .before) in
-    let within = room (c .before .before .before .before .before .before) in
+    let fits = in-room (c .before) in
+    let fine = ok (fits .before .before) in
+    let within = room fits in
     pair-agreed _ fine within (its _ fine within (c .before .same-runs .ensures) ∙ c .if3 .taken)
 
 returns-4 : tie.Need-returns-4
 returns-4 c =
-    let fine = ok (c .before .before .before .before .before .before .before .before) in
-    let within = room (c .before .before .before .before .before .before) in
+    let fits = in-room (c .before) in
+    let fine = ok (fits .before .before) in
+    let within = room fits in
     pair-differs _ fine within (its _ fine within (c .before .same-runs .ensures) ∙ c .if3 .left)
 
 pub pair-check-spec : {M : Type 1} → statement M

@@ -1,5 +1,5 @@
--- `runs::run_lookup` meets its contract. The loop keeps `Probing` true: halving is halfway, with the place to probe next at (low + high) div
--- 2. The measure is how far high is from low.
+-- `runs::run_lookup` meets its contract. The loop keeps `Probing` true: halving is halfway, and the place to probe next is (low + high)
+-- div 2. The measure is how far high is from low.
 -- Assumes nothing.
 use native.Mathlib.Omega.{arith}
 use lib.ListN.{getD}
@@ -51,7 +51,9 @@ shared-slice-read-t16 : tie.Need-shared-slice-read-t16 Inv-loop μ-loop
 shared-slice-read-t16 c = omega (arith, probing-bounds (c .before .before .before .loop .inv))
 
 returns-4 : tie.Need-returns-4 Inv-loop μ-loop
-returns-4 c = found _ _ (runs-accepted _ (omega arith) (omega arith)) (probing-end (c .before .before .before .loop .inv) (omega arith))
+returns-4 c =
+    let l = c .before .before .before .loop in
+    found _ _ (runs-accepted _ (omega arith) (omega arith)) (probing-end (l .inv) (omega arith))
 
 pub run-lookup-spec : {M : Type 1} → statement M
 run-lookup-spec =

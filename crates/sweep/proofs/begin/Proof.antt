@@ -1,7 +1,7 @@
 -- `sweep::begin` meets its contract: before any row the stack is empty, and the rows at the start are opened.
 -- Assumes nothing.
 use borrow.Author.Needs.{needs}
-use Rattle.sweep.proofs.Sweep.{standing-start}
+use Rattle.sweep.proofs.Stack.{standing-start}
 use Rattle.sweep.proofs.begin.Statement.{statement}
 use Rattle.sweep.proofs.begin.Tie as tie
 

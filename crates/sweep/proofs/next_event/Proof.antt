@@ -1,11 +1,11 @@
--- `sweep::next_event` meets its contract: b is the limit, lowered to the next row's network and to the end of the last open prefix, each of
--- which is past the address.
+-- `sweep::next_event` meets its contract: the event is the limit, lowered to the next row's network and to the end of the last open prefix,
+-- each of which is past the address. With the row alone looked at, it is the event of an empty stack.
 -- Assumes nothing.
 use mathlib.Core.Logic.{⊎-elim}
 use native.Mathlib.Omega.{arith}
 use denote.Ref.{now}
 use borrow.Author.Needs.{needs}
-use Rattle.sweep.proofs.Sweep.{RowEvent}
+use Rattle.sweep.specs.Sweep.{Event}
 use Rattle.sweep.proofs.next_event.Statement.{statement}
 use Rattle.sweep.proofs.next_event.Tie as tie
 
@@ -27,8 +27,9 @@ mul-end c = search needs
 element-copy-out-end : tie.Need-element-copy-out-end
 element-copy-out-end c = search needs
 
--- with the next row looked at, b is past the address and at most the limit and the row's network
-joined : (c : tie.Joined1) → let a = c .before .before .args in RowEvent (now (a .keys)) (a .s .row) (a .s .at) (a .limit) (c .if1 .b)
+-- with the next row looked at, before the open prefixes are
+joined : (c : tie.Joined1) → let a = c .before .before .args in
+    Event (now (a .keys)) (now (a .ends)) (a .s .row) 0 (a .s .at) (a .limit) (c .if1 .event)
 joined c =
     let start = c .before .before in
     ⊎-elim
@@ -36,16 +37,28 @@ joined c =
       past = omega (arith, w .2 .ensures, start .pre .row-past (w .0 .taken));
       upto = omega (arith, w .3 .taken);
       row-to = λ l. omega (arith, w .2 .ensures);
+      end-to = λ pos. absurd (omega arith);
     })
     (⊎-elim
-    (λ w. record { past = omega arith; upto = omega arith; row-to = λ l. omega (arith, w .2 .ensures, w .3 .left) })
-    (λ w. record { past = omega arith; upto = omega arith; row-to = λ l. absurd (omega (arith, w .0 .left)) }))
+    (λ w. record {
+      past = omega arith;
+      upto = omega arith;
+      row-to = λ l. omega (arith, w .2 .ensures, w .3 .left);
+      end-to = λ pos. absurd (omega arith);
+    })
+    (λ w. record {
+      past = omega arith;
+      upto = omega arith;
+      row-to = λ l. absurd (omega (arith, w .0 .left));
+      end-to = λ pos. absurd (omega arith);
+    }))
     (c .if1 .came)
 
 returns : tie.Need-returns
 returns c =
-    let row = joined (c .before .before .before) in
-    let start = c .before .before .before .before .before in
+    let at-join = c .before .before .before in
+    let row = joined at-join in
+    let start = at-join .before .before in
     record {
       past = start .pre .end-past (c .before .before .if3 .taken);
       upto = omega (arith, c .if4 .taken);

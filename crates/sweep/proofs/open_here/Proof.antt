@@ -9,15 +9,16 @@ use denote.Ref.{now}
 use borrow.Author.Needs.{needs}
 use Rattle.cidr.specs.Prefix.{network}
 use Rattle.sweep.specs.Sweep.{Sorted, Stack}
-use Rattle.sweep.proofs.Sweep.{opening, room-above, all-open}
+use Rattle.sweep.proofs.Stack.{opening, room-above, all-open}
 use Rattle.sweep.proofs.open_here.Statement.{statement}
 use Rattle.sweep.proofs.open_here.Tie as tie
 
 abbrev Inv-loop : tie.InvT-loop
-Inv-loop keys hops ends₀ labels₀ at row₀ depth₀ ends labels row depth = Sorted keys hops × Stack keys hops ends labels row depth at at
+Inv-loop keys hops ends₀ open-hops₀ at row₀ depth₀ ends open-hops row depth =
+    Sorted keys hops × Stack keys hops ends open-hops row depth at at
 
 abbrev μ-loop : tie.MeasureT-loop
-μ-loop keys hops ends₀ labels₀ at row₀ depth₀ ends labels row depth = length keys - row
+μ-loop keys hops ends₀ open-hops₀ at row₀ depth₀ ends open-hops row depth = length keys - row
 
 loop-holds : tie.Need-loop-holds Inv-loop μ-loop
 loop-holds c = c .before .before .pre
@@ -36,14 +37,18 @@ returns c =
     let inv = c .before .before .before .before .loop .inv in
     (refl, all-open (inv .0) (inv .1) (omega arith) (λ l e. c .if1 .taken (c .before .network .ensures ∙ e)))
 
+-- the loop, from a row whose network is the address
+abbrev at-loop : tie.Else1 Inv-loop μ-loop → tie.At-loop Inv-loop μ-loop
+at-loop c = c .before .before .before .before
+
 -- the row is at the address, so there is room above the stack
-here : (c : tie.Else1 Inv-loop μ-loop) → let turn = c .before .before .before .before in
-    network (getD (now (turn .before .before .before .args .keys)) (turn .loop .row) 0) ≡ turn .before .before .before .args .s .at
+here : (c : tie.Else1 Inv-loop μ-loop) → let a = at-loop c .before .before .before .args in
+    network (getD (now (a .keys)) (at-loop c .loop .row) 0) ≡ a .s .at
 here c = sym (c .before .network .ensures) ∙ c .if1 .left
 
-room : (c : tie.Else1 Inv-loop μ-loop) → c .before .before .before .before .loop .depth < 33
+room : (c : tie.Else1 Inv-loop μ-loop) → at-loop c .loop .depth < 33
 room c =
-    let inv = c .before .before .before .before .loop .inv in
+    let inv = at-loop c .loop .inv in
     room-above (inv .0) (inv .1) (here c) (c .before .before .before .loop-test .taken)
 
 end-of-requires : tie.Need-end-of-requires Inv-loop μ-loop
@@ -55,17 +60,17 @@ mul-ends c = omega (arith, room (c .before))
 element-write-ends : tie.Need-element-write-ends Inv-loop μ-loop
 element-write-ends c = room (c .before)
 
-mul-labels : tie.Need-mul-labels Inv-loop μ-loop
-mul-labels c = search needs
+mul-open-hops : tie.Need-mul-open-hops Inv-loop μ-loop
+mul-open-hops c = search needs
 
-shared-slice-read-labels : tie.Need-shared-slice-read-labels Inv-loop μ-loop
-shared-slice-read-labels c = omega (arith, c .before .before .before .before .before .before .loop .inv .0 .paired)
+shared-slice-read-open-hops : tie.Need-shared-slice-read-open-hops Inv-loop μ-loop
+shared-slice-read-open-hops c = omega (arith, at-loop (c .before .before) .loop .inv .0 .paired)
 
-mul-labels-2 : tie.Need-mul-labels-2 Inv-loop μ-loop
-mul-labels-2 c = omega (arith, room (c .before .before))
+mul-open-hops-2 : tie.Need-mul-open-hops-2 Inv-loop μ-loop
+mul-open-hops-2 c = omega (arith, room (c .before .before))
 
-element-write-labels : tie.Need-element-write-labels Inv-loop μ-loop
-element-write-labels c = room (c .before .before)
+element-write-open-hops : tie.Need-element-write-open-hops Inv-loop μ-loop
+element-write-open-hops c = room (c .before .before)
 
 add-depth : tie.Need-add-depth Inv-loop μ-loop
 add-depth c = omega (arith, room (c .before .before))
@@ -78,8 +83,9 @@ loop-less c = search needs
 
 loop-again : tie.Need-loop-again Inv-loop μ-loop
 loop-again c =
-    let inv = c .before .before .before .before .before .before .loop .inv in
-    (inv .0, rw (c .before .end-of .ensures) (opening (inv .0) (inv .1) (here (c .before .before)) (omega arith)))
+    let at-row = c .before .before in
+    let inv = at-loop at-row .loop .inv in
+    (inv .0, rw (c .before .end-of .ensures) (opening (inv .0) (inv .1) (here at-row) (omega arith)))
 
 returns-2 : tie.Need-returns-2 Inv-loop μ-loop
 returns-2 c = let inv = c .before .loop .inv in (refl, all-open (inv .0) (inv .1) (omega arith) (λ l e. absurd (omega arith)))
@@ -98,10 +104,10 @@ open-here-spec =
     end-of-requires
     mul-ends
     element-write-ends
-    mul-labels
-    shared-slice-read-labels
-    mul-labels-2
-    element-write-labels
+    mul-open-hops
+    shared-slice-read-open-hops
+    mul-open-hops-2
+    element-write-open-hops
     add-depth
     add-row
     loop-less
