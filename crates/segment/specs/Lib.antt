@@ -1,3 +1,4 @@
 pub mod Packed
 pub mod Pack
 pub mod Lookup
+pub mod Inside
