@@ -1,1 +1,5 @@
 pub mod PackedOutcome
+pub mod WordOnes
+pub mod CodeWords
+pub mod KeptHops
+pub mod PackedFinds
