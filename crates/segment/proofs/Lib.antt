@@ -1,1 +1,2 @@
 pub mod PackedOutcome
+pub mod BlockHop
