@@ -1,2 +1,3 @@
 pub mod PackedOutcome
 pub mod BlockHop
+pub mod WidthOf
