@@ -3,3 +3,5 @@ pub mod WordOnes
 pub mod CodeWords
 pub mod KeptHops
 pub mod PackedFinds
+pub mod BlockHop
+pub mod WidthOf
