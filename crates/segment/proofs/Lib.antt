@@ -5,3 +5,4 @@ pub mod KeptHops
 pub mod PackedFinds
 pub mod BlockHop
 pub mod WidthOf
+pub mod Walking

@@ -21,15 +21,7 @@ use Rattle.ground.proofs.Lower.{lower-past, lower-none, lower-le}
 use Rattle.cidr.specs.Prefix.{network, lengthOf}
 use Rattle.routes.specs.Row.{Row, keysOf}
 use Rattle.segment.specs.Packed.{width}
-
--- what one key adds: its length less 16 if its network is in segment q, else 0
-abbrev pub widthBy : ℕ → ℕ → ℕ
-widthBy q k = cond (eqb (network k / 65536) q) (lengthOf k - 16) 0
-
--- the width, over a list of keys
-unfoldable pub widthIn : ℕ → List ℕ → ℕ
-widthIn q [] = 0
-widthIn q (k ∷ ks) = max (widthBy q k) (widthIn q ks)
+use Rattle.segment.specs.Inside.Width.{widthBy, widthIn}
 
 module _ (q : ℕ) where
   pub width-keys : (rows : List Row) → width q rows ≡ widthIn q (keysOf rows)

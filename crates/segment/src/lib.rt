@@ -2,10 +2,14 @@
 // which segments are packed, and where they are kept, is the caller's business.
 ghost use mathlib.Core.Path.{_≡_};
 ghost use mathlib.Core.Bool.{true};
-ghost use Prim.Native.Nat.{_+_, _≤_};
+ghost use Prim.Native.Nat.{_+_, _≤_, _<_};
+ghost use lib.ListN.{length};
+ghost use lib.Count.{ones};
 ghost use Rattle.ground.specs.Column.{ascends};
+ghost use Rattle.ground.specs.Slots.{written};
+ghost use Rattle.segment.specs.Packed.{wordsFor, codeWords, basesFrom, keptHops};
 ghost use Rattle.segment.specs.Lookup.{blockOf, onesTo, segmentLent, packedGave, packedLookup};
-ghost use Rattle.segment.specs.Inside.Blocks.{Runs, begun, Ahead, Stands};
+ghost use Rattle.segment.specs.Inside.Blocks.{Runs, begun, hopIn, Ahead, Stands, Before, Grid, WordMade};
 
 // What a packed lookup gives: the hop, or 19.
 pub enum PackedHop {
@@ -70,6 +74,21 @@ struct Walk {
 // A number that no hop is.
 const NO_HOP: u32 = 65536;
 
+// A hop as the slices hold it.
+fn hop_of(hop: u32) -> u16
+    requires { ⌜ hop < 65536 ⌝ }
+    ensures { λ r. ⌜ r ≡ hop ⌝ }
+{
+    hop as u16
+}
+
+// The ones of a whole word.
+fn ones_of(word: u16) -> u16
+    ensures { λ r. ⌜ (r ≡ ones word) × (r ≤ 16) ⌝ }
+{
+    u16::count_ones(word) as u16
+}
+
 // How many runs begin at an address or before it, of which some are known.
 fn begun_at(starts: &[u32], known: usize, at: u64) -> usize
     requires { ⌜ (ascends (now starts) ≡ true) × (known ≤ begun (now starts) at) ⌝ }
@@ -94,5 +113,121 @@ fn walk_to(starts: &[u32], rhops: &[u16], s: Walk, at: u64) -> Walk
     Walk {
         begun,
         hop: rhops[begun - 1] as u32,
+    }
+}
+
+// A code word, and where the walk stands after its blocks.
+struct Word {
+    word: u16,
+    walk: Walk,
+}
+
+// The code word of 16 blocks from `first` on: the first one's bit is highest, a bit is 1 where the hop isn't that of the block before, and a
+// bit without a block is 0.
+fn word_at(starts: &[u32], rhops: &[u16], s: Walk, base: u64, size: u64, n: u64, first: u64) -> Word
+    requires { ⌜ Runs (now starts) (now rhops) × Grid base size n × Before (now starts) (now rhops) base size first s × (first < n) ⌝ }
+    ensures { λ r. ⌜ WordMade (now (starts .entry)) (now (rhops .entry)) base size n first r ⌝ }
+{
+    let mut word: u16 = 0;
+    let mut walk = s;
+    let mut block = first;
+    let mut at = base + first * size;
+    let mut left = 16;
+    while 0 < left {
+        word *= 2;
+        if block < n {
+            let next = walk_to(starts, rhops, walk, at);
+            if next.hop != walk.hop {
+                word += 1;
+            }
+            walk = next;
+            at += size;
+        }
+        block += 1;
+        left -= 1;
+    }
+    Word { word, walk }
+}
+
+// The code words of all blocks and their bases, from the front of two slices.
+fn write_words(
+    starts: &[u32],
+    rhops: &[u16],
+    s: Walk,
+    base: u64,
+    size: u64,
+    n: u64,
+    words: &mut [u16],
+    bases: &mut [u16],
+)
+    requires { ⌜ Runs (now starts) (now rhops)
+        × Grid base size n
+        × Before (now starts) (now rhops) base size 0 s
+        × (wordsFor n ≤ length (now words))
+        × (wordsFor n ≤ length (now bases)) ⌝ }
+    ensures { λ _.
+        ⌜ (now (words .exit) ≡ written (codeWords (hopIn (now (starts .entry)) (now (rhops .entry)) base size) n) (now (words .entry)))
+        × (now (bases .exit)
+        ≡ written (basesFrom 0 (codeWords (hopIn (now (starts .entry)) (now (rhops .entry)) base size) n)) (now (bases .entry))) ⌝ }
+{
+    let mut walk = s;
+    let mut first = 0;
+    let mut j = 0;
+    let mut ones = 0;
+    while first < n {
+        let made = word_at(starts, rhops, walk, base, size, n, first);
+        let word = made.word;
+        words[j] = word;
+        bases[j] = ones;
+        ones += ones_of(word);
+        walk = made.walk;
+        j += 1;
+        first += 16;
+    }
+}
+
+// How many hops are kept: one for each block whose hop isn't that of the block before.
+fn count_hops(starts: &[u32], rhops: &[u16], s: Walk, base: u64, size: u64, n: u64) -> usize
+    requires { ⌜ Runs (now starts) (now rhops) × Grid base size n × Before (now starts) (now rhops) base size 0 s ⌝ }
+    ensures { λ r. ⌜ r ≡ length (keptHops (hopIn (now (starts .entry)) (now (rhops .entry)) base size) n) ⌝ }
+{
+    let mut walk = s;
+    let mut at = base;
+    let mut block = 0;
+    let mut kept = 0;
+    while block < n {
+        let next = walk_to(starts, rhops, walk, at);
+        if next.hop != walk.hop {
+            kept += 1;
+        }
+        walk = next;
+        at += size;
+        block += 1;
+    }
+    kept
+}
+
+// The kept hops, from the front of a slice.
+fn write_hops(starts: &[u32], rhops: &[u16], s: Walk, base: u64, size: u64, n: u64, out: &mut [u16])
+    requires { ⌜ Runs (now starts) (now rhops)
+        × Grid base size n
+        × Before (now starts) (now rhops) base size 0 s
+        × (length (keptHops (hopIn (now starts) (now rhops) base size) n) ≤ length (now out)) ⌝ }
+    ensures { λ _.
+        ⌜ now (out .exit) ≡ written (keptHops (hopIn (now (starts .entry)) (now (rhops .entry)) base size) n) (now (out .entry)) ⌝ }
+{
+    let mut walk = s;
+    let mut at = base;
+    let mut block = 0;
+    let mut kept = 0;
+    while block < n {
+        let next = walk_to(starts, rhops, walk, at);
+        if next.hop != walk.hop {
+            out[kept] = hop_of(next.hop);
+            kept += 1;
+        }
+        walk = next;
+        at += size;
+        block += 1;
     }
 }

@@ -4,14 +4,15 @@
 use mathlib.Core.Path.{_≡_}
 use mathlib.Core.Bool.{Bool, true, cond}
 use mathlib.Core.List.{List, [], _∷_}
-use Prim.Native.Nat.{ℕ, _+_, _-_, _*_, _^_, _≤_, _<_}
+use Prim.Native.Nat.{ℕ, _+_, _-_, _*_, _^_, _≤_, _<_, min}
 use lib.ListN.{length, getD}
 use lib.Dec.{ltb, eqb}
 use Rattle.ground.specs.Numbers.{Check, check, outcome, done, noRoom}
 use Rattle.ground.specs.Column.{ascends, lower}
 use Rattle.ground.specs.Slots.{written}
 use Rattle.segment.specs.declared.Walk.{Walk}
-use Rattle.segment.specs.Packed.{codeWords, basesFrom, keptHops}
+use Rattle.segment.specs.declared.Word.{Word}
+use Rattle.segment.specs.Packed.{bit, wordFrom, codeWords, basesFrom, keptHops}
 use Rattle.segment.specs.Pack.{PackLent, PackOutcome, packRefused}
 
 -- starts that begin with 0 and ascend, and as many hops
@@ -54,6 +55,16 @@ pub record Stands (starts rhops : List ℕ) (at : ℕ) (s : Walk) : Type 0 where
 pub record Before (starts rhops : List ℕ) (base size t : ℕ) (s : Walk) : Type 0 where
   pub ahead : Ahead starts (base + t * size) s
   pub last : s .hop ≡ hopBefore (hopIn starts rhops base size) t
+
+-- the blocks cover a segment: n of this size from the base on
+pub record Grid (base size n : ℕ) : Type 0 where
+  pub within : base + 65536 ≤ 4294967296
+  pub whole : n * size ≡ 65536
+
+-- a code word was made of the blocks from the first on, and the walk stands before the next block, or behind the last one
+pub record WordMade (starts rhops : List ℕ) (base size n first : ℕ) (r : Word) : Type 0 where
+  pub word-is : r .word ≡ wordFrom (bit (hopIn starts rhops base size) n) 16 first
+  pub next : Before starts rhops base size (min (first + 16) n) (r .walk)
 
 -- packing n = 2^w blocks with these hops into what was lent, where the pair is known to agree: 13, or all three slices
 unfoldable pub roomChecks : ℕ → (ℕ → ℕ) → PackLent → List Check
