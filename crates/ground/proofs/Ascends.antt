@@ -1,13 +1,14 @@
 -- Numbers that ascend: the first is below the next and below all others, and so is each of those behind it.
 -- Assumes nothing.
-use mathlib.Core.Path.{_≡_}
+use mathlib.Core.Path.{_≡_, refl}
 use mathlib.Core.Bool.{true}
 use mathlib.Core.List.{List, [], _∷_}
-use Prim.Native.Nat.{ℕ, zero, suc, _<_}
+use Prim.Native.Nat.{ℕ, zero, suc, _+_, _<_}
+use native.Mathlib.Nat.{suc-add}
 use native.Mathlib.Omega.{arith}
 use lib.ListN.{length, getD, drop}
-use borrow.Author.Tests.{ltb-true}
-use Rattle.ground.proofs.Truth.{and-left, and-right}
+use borrow.Author.Tests.{ltb-true, lt-ltb}
+use Rattle.ground.proofs.Truth.{and-left, and-right, and-both}
 use Rattle.ground.specs.Column.{below, ascends}
 
 pub ascends-rest : (x : ℕ) (xs : List ℕ) → ascends (x ∷ xs) ≡ true → ascends xs ≡ true
@@ -34,3 +35,11 @@ ascends-at [] a i j l m = absurd (omega arith)
 ascends-at (x ∷ xs) a i zero l m = absurd (omega arith)
 ascends-at (x ∷ xs) a zero (suc j) l m = first-least x xs a j (omega arith)
 ascends-at (x ∷ xs) a (suc i) (suc j) l m = ascends-at xs (ascends-rest x xs a) i j (omega arith) (omega arith)
+
+-- numbers each below the next ascend
+pub ascends-of : (xs : List ℕ) → ((i : ℕ) → i + 1 < length xs → getD xs i 0 < getD xs (i + 1) 0) → ascends xs ≡ true
+unfolding ascends
+ascends-of [] h = refl
+ascends-of (x ∷ []) h = refl
+ascends-of (x ∷ y ∷ ys) h =
+    and-both (lt-ltb x y (h 0 (omega arith))) (ascends-of (y ∷ ys) (λ i l. rw suc-add at (h (suc i) (omega arith))))

@@ -2,13 +2,13 @@
 -- Assumes nothing.
 use mathlib.Core.Path.{_≡_, refl, sym, ap, _∙_}
 use mathlib.Core.Bool.{Bool, true, false, not, cond}
-use mathlib.Core.List.{List}
+use mathlib.Core.List.{List, [], _∷_}
 use Prim.Native.Nat.{ℕ, _≤_, _<_}
 use native.Mathlib.Omega.{arith}
 use lib.ListN.{length, take}
 use lib.Dec.{ltb}
 use borrow.Author.Tests.{lt-ltb, le-ltb}
-use Rattle.ground.specs.Numbers.{firstFault, outcome, done, illFormed, noRoom, notItsRuns}
+use Rattle.ground.specs.Numbers.{check, firstFault, outcome, done, illFormed, noRoom, notItsRuns}
 use Rattle.ground.specs.Slots.{written}
 use Rattle.ground.proofs.Numbers.{outcome-later, outcome-last}
 use Rattle.routes.specs.Row.{Row, ListLent, rowsLent}
@@ -76,3 +76,38 @@ module _ (p : Pair) where
       pub pair-differs : itsRuns p ≡ false → notItsRuns ≡ pairCheck p
       unfolding pairCheck pairChecks pairIll firstFault
       pair-differs q = rw (e, le-ltb (runRoom (p .table .starts) (p .table .hops)) (p .table .count) l, q)
+
+-- what each number of the pair check says of its two checks
+module _ (p : Pair) where
+  both : (ill its : Bool) → firstFault (check ill illFormed ∷ check (not its) notItsRuns ∷ []) ≡ cond ill illFormed (cond its done notItsRuns)
+  unfolding firstFault
+  both true its = refl
+  both false true = refl
+  both false false = refl
+
+  pub pair-agrees : pairCheck p ≡ done → (pairIll p ≡ false) × (itsRuns p ≡ true)
+  unfolding pairCheck pairChecks
+  pair-agrees e = go (pairIll p) (itsRuns p) (sym (both (pairIll p) (itsRuns p)) ∙ e)
+    where
+      go : (ill its : Bool) → cond ill illFormed (cond its done notItsRuns) ≡ done → (ill ≡ false) × (its ≡ true)
+      go true its e = absurd (omega arith)
+      go false true e = (refl, refl)
+      go false false e = absurd (omega arith)
+
+  pub pair-is-ill : pairCheck p ≡ illFormed → pairIll p ≡ true
+  unfolding pairCheck pairChecks
+  pair-is-ill e = go (pairIll p) (itsRuns p) (sym (both (pairIll p) (itsRuns p)) ∙ e)
+    where
+      go : (ill its : Bool) → cond ill illFormed (cond its done notItsRuns) ≡ illFormed → ill ≡ true
+      go true its e = refl
+      go false true e = absurd (omega arith)
+      go false false e = absurd (omega arith)
+
+  pub pair-is-other : pairCheck p ≡ notItsRuns → (pairIll p ≡ false) × (itsRuns p ≡ false)
+  unfolding pairCheck pairChecks
+  pair-is-other e = go (pairIll p) (itsRuns p) (sym (both (pairIll p) (itsRuns p)) ∙ e)
+    where
+      go : (ill its : Bool) → cond ill illFormed (cond its done notItsRuns) ≡ notItsRuns → (ill ≡ false) × (its ≡ false)
+      go true its e = absurd (omega arith)
+      go false true e = absurd (omega arith)
+      go false false e = (refl, refl)

@@ -6,3 +6,6 @@ pub mod PackedFinds
 pub mod BlockHop
 pub mod WidthOf
 pub mod Walking
+pub mod Widening
+pub mod SameBlocks
+pub mod PackLaws

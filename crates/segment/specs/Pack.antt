@@ -5,9 +5,11 @@ use mathlib.Core.List.{List, [], _∷_, _++_}
 use Prim.Native.Nat.{ℕ}
 use lib.ListN.{length}
 use lib.Dec.{ltb}
-use Rattle.ground.specs.Numbers.{Check, check, outcome, done, noRoom}
+use Rattle.ground.specs.Numbers.{Check, check, outcome, done, illFormed, noRoom, notItsRuns}
 use Rattle.ground.specs.Slots.{written}
 use Rattle.runs.specs.Pair.{Pair, listOf, pairChecks}
+use Rattle.segment.specs.declared.Packing.{Packing}
+use Rattle.segment.specs.declared.Packing.the-variants.{Done, IllFormed, NotItsRuns, NoRoom}
 use Rattle.segment.specs.Packed.{width, wordsOf, basesOf, packedHopsOf}
 
 -- the three slices that a packing is lent for words, bases and hops
@@ -15,6 +17,9 @@ pub record PackLent : Type 0 where
   pub words : List ℕ
   pub bases : List ℕ
   pub hops : List ℕ
+
+abbrev pub packLent : List ℕ → List ℕ → List ℕ → PackLent
+packLent words bases hops = record { words = words; bases = bases; hops = hops }
 
 -- what a packing returns and leaves: its number, the width, how many words (and bases) and how many hops, and the three slices
 pub record PackOutcome : Type 0 where
@@ -54,3 +59,11 @@ packDone q p l = record {
 -- Rule 9.9: packing segment q.
 unfoldable pub pack : ℕ → Pair → PackLent → PackOutcome
 pack q p l = outcome (packChecks q p l) (packRefused l) (packDone q p l)
+
+-- the same, read from the code's answer and the slices at exit
+abbrev pub packGave : Packing → List ℕ → List ℕ → List ℕ → PackOutcome
+packGave (Done w n m) words bases hops =
+    record { number = done; width = w; wordCount = n; hopCount = m; words = words; bases = bases; hops = hops }
+packGave IllFormed words bases hops = packRefused (packLent words bases hops) illFormed
+packGave NotItsRuns words bases hops = packRefused (packLent words bases hops) notItsRuns
+packGave NoRoom words bases hops = packRefused (packLent words bases hops) noRoom

@@ -2,14 +2,20 @@
 // which segments are packed, and where they are kept, is the caller's business.
 ghost use mathlib.Core.Path.{_≡_};
 ghost use mathlib.Core.Bool.{true};
-ghost use Prim.Native.Nat.{_+_, _≤_, _<_};
+ghost use Prim.Native.Nat.{_+_, _-_, _*_, _^_, _≤_, _<_};
 ghost use lib.ListN.{length};
 ghost use lib.Count.{ones};
 ghost use Rattle.ground.specs.Column.{ascends};
 ghost use Rattle.ground.specs.Slots.{written};
+ghost use Rattle.routes.specs.Row.{listLent};
+ghost use Rattle.runs.specs.Table.{runsLent};
+ghost use Rattle.runs.specs.Pair.{pair};
 ghost use Rattle.segment.specs.Packed.{wordsFor, codeWords, basesFrom, keptHops};
+ghost use Rattle.segment.specs.Pack.{packLent, packGave, pack};
 ghost use Rattle.segment.specs.Lookup.{blockOf, onesTo, segmentLent, packedGave, packedLookup};
-ghost use Rattle.segment.specs.Inside.Blocks.{Runs, begun, hopIn, Ahead, Stands, Before, Grid, WordMade};
+ghost use Rattle.segment.specs.Inside.Blocks.{Runs, begun, hopIn, Ahead, Stands, Before, Grid, WordMade, packBlocks};
+ghost use Rattle.segment.specs.Inside.Width.{widthIn};
+use runs::Paired;
 
 // What a packed lookup gives: the hop, or 19.
 pub enum PackedHop {
@@ -229,5 +235,153 @@ fn write_hops(starts: &[u32], rhops: &[u16], s: Walk, base: u64, size: u64, n: u
         walk = next;
         at += size;
         block += 1;
+    }
+}
+
+// The width of a segment, from the keys of a list: they ascend, so those of the segment stand side by side, and the first is found by halving.
+fn width_of(keys: &[u64], q: u64) -> u64
+    requires { ⌜ (ascends (now keys) ≡ true) × (q < 65536) ⌝ }
+    ensures { λ r. ⌜ r ≡ widthIn q (now (keys .entry)) ⌝ }
+{
+    let first = q * 4194304;
+    let mut i = halving::column64::lower(keys, first);
+    let mut width = 0;
+    while i < keys.len() {
+        let key = keys[i];
+        if first + 4194304 <= key {
+            return width;
+        }
+        let len = key % 64;
+        if 16 + width < len {
+            width = len - 16;
+        }
+        i += 1;
+    }
+    width
+}
+
+// What packing gives: the width with the counts of words and of hops, 11, 14, or 13.
+pub enum Packing {
+    Done {
+        width: u64,
+        words: usize,
+        hops: usize,
+    },
+    IllFormed,
+    NotItsRuns,
+    NoRoom,
+}
+
+// A power of two, to 2^16.
+fn power(exponent: u64) -> u64
+    requires { ⌜ exponent ≤ 16 ⌝ }
+    ensures { λ r. ⌜ r ≡ 2 ^ exponent ⌝ }
+{
+    let one: u64 = 1;
+    one << exponent
+}
+
+// How many words n bits take.
+fn words_for(n: u64) -> usize
+    requires { ⌜ n ≤ 65536 ⌝ }
+    ensures { λ r. ⌜ r ≡ wordsFor n ⌝ }
+{
+    ((n + 15) / 16) as usize
+}
+
+// The blocks of a segment whose width is known, packed into lent words, bases and hops: all is measured before the first write.
+fn pack_blocks(
+    starts: &[u32],
+    rhops: &[u16],
+    base: u64,
+    width: u64,
+    words: &mut [u16],
+    bases: &mut [u16],
+    out: &mut [u16],
+) -> Packing
+    requires { ⌜ Runs (now starts) (now rhops) × (width ≤ 16) × (base + 65536 ≤ 4294967296) ⌝ }
+    ensures { λ r.
+        ⌜ packGave r (now (words .exit)) (now (bases .exit)) (now (out .exit))
+        ≡ packBlocks width (hopIn (now (starts .entry)) (now (rhops .entry)) base (2 ^ (16 - width)))
+        (packLent (now (words .entry)) (now (bases .entry)) (now (out .entry))) ⌝ }
+{
+    let n = power(width);
+    let size = power(16 - width);
+    let count = words_for(n);
+    if words.len() < count {
+        return Packing::NoRoom;
+    }
+    if bases.len() < count {
+        return Packing::NoRoom;
+    }
+    let s = Walk {
+        begun: halving::column32::lower(starts, base + 1),
+        hop: NO_HOP,
+    };
+    let kept = count_hops(starts, rhops, s, base, size, n);
+    if out.len() < kept {
+        return Packing::NoRoom;
+    }
+    write_words(starts, rhops, s, base, size, n, words, bases);
+    write_hops(starts, rhops, s, base, size, n, out);
+    Packing::Done {
+        width,
+        words: count,
+        hops: kept,
+    }
+}
+
+// One segment of a list and its run table that are known to agree: the work after the pair check, which is that of the segment alone.
+fn pack_segment(
+    q: u64,
+    keys: &[u64],
+    starts: &[u32],
+    rhops: &[u16],
+    words: &mut [u16],
+    bases: &mut [u16],
+    out: &mut [u16],
+) -> Packing
+    requires { ⌜ (q < 65536) × (ascends (now keys) ≡ true) × (widthIn q (now keys) ≤ 16) × Runs (now starts) (now rhops) ⌝ }
+    ensures { λ r.
+        ⌜ packGave r (now (words .exit)) (now (bases .exit)) (now (out .exit))
+        ≡ packBlocks (widthIn q (now (keys .entry)))
+        (hopIn (now (starts .entry)) (now (rhops .entry)) (q * 65536) (2 ^ (16 - widthIn q (now (keys .entry)))))
+        (packLent (now (words .entry)) (now (bases .entry)) (now (out .entry))) ⌝ }
+{
+    let width = width_of(keys, q);
+    pack_blocks(starts, rhops, q * 65536, width, words, bases, out)
+}
+
+// Segment q of a list and its run table into lent words, bases and hops.
+pub fn pack(
+    q: u16,
+    count: usize,
+    keys: &[u64],
+    hops: &[u16],
+    runs: usize,
+    starts: &[u32],
+    rhops: &[u16],
+    words: &mut [u16],
+    bases: &mut [u16],
+    out: &mut [u16],
+) -> Packing
+    ensures { λ r.
+        ⌜ packGave r (now (words .exit)) (now (bases .exit)) (now (out .exit))
+        ≡ pack q
+        (pair (listLent count (now (keys .entry)) (now (hops .entry))) (runsLent runs (now (starts .entry)) (now (rhops .entry))))
+        (packLent (now (words .entry)) (now (bases .entry)) (now (out .entry))) ⌝ }
+{
+    match runs::pair_check(count, keys, hops, runs, starts, rhops) {
+        Paired::IllFormed => Packing::IllFormed,
+        Paired::NotItsRuns => Packing::NotItsRuns,
+        Paired::Agreed => pack_segment(
+            q as u64,
+            &keys[..count],
+            &starts[..runs],
+            &rhops[..runs],
+            words,
+            bases,
+            out,
+        ),
     }
 }
