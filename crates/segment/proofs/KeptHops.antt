@@ -20,7 +20,7 @@ use Rattle.ground.proofs.Truth.{decided}
 use Rattle.segment.specs.Packed.{bit, keptHops}
 
 -- one number at the end
-counted-more : (p : ℕ → Bool) (b : ℕ) → counted p 0 (b + 1) ≡ counted p 0 b + cond (p b) 1 0
+pub counted-more : (p : ℕ → Bool) (b : ℕ) → counted p 0 (b + 1) ≡ counted p 0 b + cond (p b) 1 0
 counted-more p b = rw (counted-cut, zero-add) (omega (arith, counted-suc p b 0, counted-is p (suc b) 0, ap length (picked-none p (suc b))))
 
 module _ (hop : ℕ → ℕ) (n : ℕ) where

@@ -6,3 +6,5 @@ pub mod PackedFinds
 pub mod BlockHop
 pub mod WidthOf
 pub mod Walking
+pub mod AtBlock
+pub mod CountingHops
