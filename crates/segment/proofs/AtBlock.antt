@@ -1,5 +1,5 @@
--- A loop over the blocks of a segment stands before a block, at the address where it begins. The walk goes on to that address, and the hop it
--- finds differs from the last one exactly where the block's bit is 1. Each block ends in the segment, so the next address fits.
+-- A loop over the blocks of a segment stands before a block, at the address where it begins. The walk goes on to that address, and the hop
+-- it finds differs from the last one exactly where the block's bit is 1. Each block ends in the segment, so the next address fits.
 -- Assumes nothing.
 use mathlib.Core.Path.{_≡_}
 use mathlib.Core.Bool.{true, false, not}
@@ -53,13 +53,13 @@ module _ {starts rhops : List ℕ} {base size n : ℕ} {s : Walk} where
           walk = stands-before (a .runs) base size block (rw (a .there) at st);
         }
 
-        pub hop-there : next .hop ≡ hopIn starts rhops base size block
+        pub hop-found : next .hop ≡ hopIn starts rhops base size block
         unfolding hopIn
-        hop-there = rw (a .there) at (st .hop-is)
+        hop-found = rw (a .there) at (st .hop-is)
 
         -- the block's bit, by the hop that the walk finds and the last one
         bit-hops : bit (hopIn starts rhops base size) n block ≡ not (eqb (next .hop) (s .hop))
-        bit-hops = rw (hop-there, a .walk .last) (bit-is (hopIn starts rhops base size) n block l (omega (arith, hop-there, st .hop-small)))
+        bit-hops = rw (hop-found, a .walk .last) (bit-is (hopIn starts rhops base size) n block l (omega (arith, hop-found, st .hop-small)))
 
         pub bit-one : (next .hop ≡ s .hop → ⊥) → bit (hopIn starts rhops base size) n block ≡ true
         bit-one ne = rw (bit-hops, ne-eqb (next .hop) (s .hop) ne)

@@ -8,3 +8,4 @@ pub mod WidthOf
 pub mod Walking
 pub mod AtBlock
 pub mod CountingHops
+pub mod WritingHops
