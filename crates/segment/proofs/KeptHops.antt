@@ -1,35 +1,52 @@
 -- The hops of n blocks: there are as many as bits are 1, and the place of block b's hop is one less than how many of the bits 0 to b are 1.
--- If bit b is 1, block b itself is picked there. Else block b has the hop of the block before, and its place is that block's.
+-- If bit b is 1, block b itself is picked there, one hop more than before. Else block b has the hop and the place of the block before.
 -- Assumes nothing.
 use mathlib.Core.Path.{_≡_, sym, ap, _∙_}
 use mathlib.Core.Bool.{Bool, true, false, cond}
 use mathlib.Core.Logic.{⊎-elim}
-use mathlib.Core.List.{map}
+use mathlib.Core.List.{List, [], _∷_, _++_, map, map-append, append-nil}
 use Prim.Native.Nat.{ℕ, zero, suc, _+_, _-_, _≤_, _<_}
 use native.Mathlib.Nat.{zero-add}
 use native.Mathlib.Numerals.{add-one}
 use native.Mathlib.Omega.{arith}
 use lib.ListN.{length, getD, length-map}
 use borrow.Author.Tests.{lt-ltb}
-use Rattle.ground.specs.Stretch.{picked, counted}
-use Rattle.ground.specs.Stretch.Laws.{picked-none, picked-is}
+use Rattle.ground.specs.Stretch.{picked, counted, keep}
+use Rattle.ground.specs.Stretch.Laws.{picked-none, picked-suc, picked-cut, picked-is}
 use Rattle.ground.specs.Stretch.Count.{counted-is, counted-suc, counted-cut, picked-at}
 use Rattle.ground.specs.Stretch.Turns.{turns-at-first, same-of-stays}
 use Rattle.ground.proofs.Map.{getD-map}
 use Rattle.ground.proofs.Truth.{decided}
 use Rattle.segment.specs.Packed.{bit, keptHops}
 
--- one number at the end
-counted-more : (p : ℕ → Bool) (b : ℕ) → counted p 0 (b + 1) ≡ counted p 0 b + cond (p b) 1 0
+-- one number more at the end
+picked-more : (p : ℕ → Bool) (b : ℕ) → picked p 0 (b + 1) ≡ picked p 0 b ++ keep (p b) b []
+picked-more p b = rw (picked-cut, zero-add) (ap (picked p 0 b ++_) (picked-suc p b 0 ∙ rw picked-none))
+
+pub counted-more : (p : ℕ → Bool) (b : ℕ) → counted p 0 (b + 1) ≡ counted p 0 b + cond (p b) 1 0
 counted-more p b = rw (counted-cut, zero-add) (omega (arith, counted-suc p b 0, counted-is p (suc b) 0, ap length (picked-none p (suc b))))
 
+-- the hops kept of the blocks before block b
+abbrev pub hopsTo : (ℕ → ℕ) → ℕ → ℕ → List ℕ
+hopsTo hop n b = map hop (picked (bit hop n) 0 b)
+
+module _ (hop : ℕ → ℕ) (n b : ℕ) where
+  pub length-hops-to : length (hopsTo hop n b) ≡ counted (bit hop n) 0 b
+  length-hops-to = rw (length-map, counted-is)
+
+  pub hops-to-one : bit hop n b ≡ true → hopsTo hop n (b + 1) ≡ hopsTo hop n b ++ hop b ∷ []
+  hops-to-one e = rw (picked-more, e, map-append)
+
+  pub hops-to-zero : bit hop n b ≡ false → hopsTo hop n (b + 1) ≡ hopsTo hop n b
+  hops-to-zero e = rw (picked-more, e, append-nil)
+
 module _ (hop : ℕ → ℕ) (n : ℕ) where
-  kept-hops-is : keptHops hop n ≡ map hop (picked (bit hop n) 0 n)
+  pub kept-hops-is : keptHops hop n ≡ hopsTo hop n n
   unfolding keptHops
   kept-hops-is = rw picked-is
 
   pub length-kept-hops : length (keptHops hop n) ≡ counted (bit hop n) 0 n
-  length-kept-hops = rw (kept-hops-is, length-map, counted-is)
+  length-kept-hops = rw (kept-hops-is, length-hops-to)
 
   first-bit : 0 < n → bit hop n 0 ≡ true
   unfolding bit

@@ -9,3 +9,6 @@ pub mod Walking
 pub mod Widening
 pub mod SameBlocks
 pub mod PackLaws
+pub mod AtBlock
+pub mod CountingHops
+pub mod WritingHops

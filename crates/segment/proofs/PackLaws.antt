@@ -13,6 +13,7 @@ use lib.Dec.{ltb, eqb}
 use borrow.Author.Tests.{lt-ltb, le-ltb}
 use Rattle.ground.specs.Numbers.{outcome, done, illFormed, noRoom, notItsRuns}
 use Rattle.ground.specs.Slots.{written}
+use Rattle.ground.proofs.Truth.{cond-false}
 use Rattle.ground.proofs.Numbers.{outcome-here, outcome-later, outcome-last}
 use Rattle.runs.specs.Pair.{Pair, listOf, pairIll, itsRuns, pairChecks, pairCheck}
 use Rattle.runs.proofs.TableOutcomes.{pair-agrees, pair-is-ill, pair-is-other}
@@ -78,7 +79,7 @@ module _ (w : ℕ) (hop : ℕ → ℕ) (l : PackLent) where
           same-done w (count ∙ sym (length-code-words hop (2 ^ w))) kept e f g
           ∙ sym
           (outcome-later noRoom _ _ _ words-fit ∙ outcome-later noRoom _ _ _ bases-fit
-          ∙ outcome-later noRoom _ _ _ (le-ltb _ _ (rw kept at fits)))
+          ∙ outcome-last _ 12 _ _ ∙ cond-false _ _ (le-ltb _ _ (rw kept at fits)))
 
 module _ (q : ℕ) (p : Pair) (l : PackLent) where
   pub pack-ill : pairCheck p ≡ illFormed → packRefused l illFormed ≡ pack q p l
