@@ -1,5 +1,5 @@
--- `runs::run_lookup` meets its contract. The loop keeps `Probing` true: halving is halfway, with the place to probe next at (low + high) div
--- 2. The measure is how far high is from low.
+-- `runs::run_lookup` meets its contract. The loop keeps `Probing` true: halving is halfway, with the place to probe next at
+-- (low + high) div 2. The measure is how far high is from low.
 -- Assumes nothing.
 use native.Mathlib.Omega.{arith}
 use lib.ListN.{getD}

@@ -1,5 +1,5 @@
--- `whelk::read_feed` is safe and ends, and has read no more than the buffer holds: each read that isn't the last one leaves fewer bytes to fill.
--- Assumes nothing.
+-- `whelk::read_feed` is safe and ends, and has read no more than the buffer holds: each read that isn't the last one leaves fewer bytes to
+-- fill. Assumes nothing.
 use mathlib.Core.Path.{_≡_, sym}
 use mathlib.Core.List.{List}
 use Prim.Native.Nat.{ℕ, _-_, _≤_}
