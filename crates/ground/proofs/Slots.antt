@@ -1,5 +1,5 @@
--- The slots of a lent slice after a call: writing at the front keeps the length, what was written stands at the front, a longer writing covers
--- a shorter one, and one more slot is one more number. Then what `same` says of two lists.
+-- The slots of a lent slice after a call: writing at the front keeps the length, what was written stands at the front, a longer writing
+-- covers a shorter one, and one more slot is one more number. Then what `same` says of two lists.
 -- Assumes nothing.
 use mathlib.Core.Path.{_≡_, refl, sym, ap, _∙_}
 use mathlib.Core.Bool.{true}

@@ -73,7 +73,8 @@ longest-cases (t ∷ ts) = ⊎-elim (λ w. inr (t, top-alone t ts (w .0) (w .1))
   where
     more : (r : Row) → Top ts r → ((longest (t ∷ ts) ≡ none) × ((s : Row) → Has s (t ∷ ts) → ⊥)) ⊎ ((r : Row) × Top (t ∷ ts) r)
     more r p =
-        ⊎-elim (λ e. inr (t, top-first t ts r p e)) (λ e. inr (r, top-later t ts r p e)) (decided (leb (lengthOf (r .key)) (lengthOf (t .key))))
+        ⊎-elim (λ e. inr (t, top-first t ts r p e)) (λ e. inr (r, top-later t ts r p e))
+        (decided (leb (lengthOf (r .key)) (lengthOf (t .key))))
 
 module _ (rows : List Row) (a : ℕ) where
   has-matching : (r : Row) → Has r rows → holds (r .key) a ≡ true → Has r (matching a rows)

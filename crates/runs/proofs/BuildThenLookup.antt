@@ -37,7 +37,9 @@ module _ (l : ListLent) (t : SlotsLent) {n : ℕ} {starts hops : List ℕ} (b : 
   well = ⊎-elim (λ e. e) (λ e. absurd (omega (arith, ap (λ (o : BuildOutcome). o .number) (b ∙ sym (build-ill l t e))))) (decided _)
 
   left : built done n starts hops
-      ≡ built done (length (runStarts (rowsLent l))) (written (runStarts (rowsLent l)) (t .starts)) (written (runHops (rowsLent l)) (t .hops))
+      ≡ built done (length (runStarts (rowsLent l)))
+      (written (runStarts (rowsLent l)) (t .starts))
+      (written (runHops (rowsLent l)) (t .hops))
   left = rows-done (rowsLent l) t (b ∙ build-well l t well)
 
   count-is : n ≡ length (runStarts (rowsLent l))
