@@ -38,7 +38,8 @@ module _ (key : ℕ) where
     unfolding isPrefix
     outside h = rw (le-leb (lengthOf key) 32 short, le-ltb (network key) 4294967296 (omega arith))
 
-    pub aligned : network key ≤ 4294967295 → eqb (network key / 2 ^ (32 - lengthOf key) * 2 ^ (32 - lengthOf key)) (network key) ≡ isPrefix key
+    pub aligned : network key ≤ 4294967295
+        → eqb (network key / 2 ^ (32 - lengthOf key) * 2 ^ (32 - lengthOf key)) (network key) ≡ isPrefix key
     unfolding isPrefix hostBits size
     aligned h =
         rw (le-leb (lengthOf key) 32 short, lt-ltb (network key) 4294967296 (omega arith))

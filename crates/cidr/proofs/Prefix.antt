@@ -82,7 +82,8 @@ holds-to key a e = omega (arith, holds-is key a e, host-bits-lt (lengthOf key) a
 -- and all of that is held
 host-bits-past : (len net d : ℕ) → hostBits len net ≡ 0 → d < size len → hostBits len (net + d) ≡ d
 unfolding hostBits
-host-bits-past len net d e h = sym (mod-add-mod net (size len) d) ∙ (ap (λ x. (x + d) % size len) e ∙ (ap (λ x. x % size len) (zero-add d) ∙ mod-eq-of-lt h))
+host-bits-past len net d e h =
+    sym (mod-add-mod net (size len) d) ∙ (ap (λ x. (x + d) % size len) e ∙ (ap (λ x. x % size len) (zero-add d) ∙ mod-eq-of-lt h))
 
 pub within-holds : (key a : ℕ) → Prefix key → network key ≤ a → a < endOf key → holds key a ≡ true
 unfolding holds
@@ -112,7 +113,8 @@ ended-of-not key a p from e =
 pub covers-before : (key other : ℕ) → covers key other ≡ true → lengthOf key < lengthOf other → key < other
 unfolding covers
 covers-before key other e long =
-    let from : network key ≤ network other = holds-from key (network other) (and-right (leb (lengthOf key) (lengthOf other)) (holds key (network other)) e) in
+    let held = and-right (leb (lengthOf key) (lengthOf other)) (holds key (network other)) e in
+    let from : network key ≤ network other = holds-from key (network other) held in
     omega (arith, key-split key, key-split other)
 
 -- a longer prefix leaves no more host bits

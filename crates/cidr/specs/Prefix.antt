@@ -5,7 +5,7 @@ use mathlib.Core.Bool.{Bool, _&&_}
 use Prim.Native.Nat.{ℕ, _+_, _-_, _*_, _/_, _%_, _^_}
 use lib.Dec.{leb, ltb, eqb}
 
--- Rule 2.1: there are so many addresses, and an address is a number below it.
+-- Rule 2.1: how many addresses there are. An address is a number below it.
 abbrev pub addresses : ℕ
 addresses = 4294967296
 
@@ -23,7 +23,7 @@ network key = key / 64
 abbrev pub lengthOf : ℕ → ℕ
 lengthOf key = key % 64
 
--- Rule 2.3: a prefix of this length holds so many addresses.
+-- Rule 2.3: how many addresses a prefix of this length holds.
 unfoldable pub size : ℕ → ℕ
 size len = 2 ^ (32 - len)
 

@@ -3,7 +3,7 @@ ghost use mathlib.Core.Path.{_≡_};
 ghost use Prim.Native.Nat.{_+_, _-_, _*_, _/_, _^_, _≤_};
 ghost use Rattle.cidr.specs.Prefix.{isPrefix, holds, network, endOf};
 
-// Rule 2.1: there are so many addresses, and an address is a number below it.
+// Rule 2.1: how many addresses there are. An address is a number below it.
 pub const ADDRESSES: u64 = 4294967296;
 
 // A number with its low `bits` bits set to 0.

@@ -54,35 +54,56 @@ fn counts(number: u64, c: Counts) {
     print::text(b"\n");
 }
 
-// Every byte of the report.
-fn show_report(report: &[u8]) {
-    print::text(b"report");
-    let mut i = 0;
-    while i < report.len() {
-        item(report[i] as u64);
-        i += 1;
-    }
-    print::text(b"\n");
+// The slots that an import leaves: those of its report, its keys or its hops.
+enum Column {
+    Report,
+    Keys,
+    Hops,
 }
 
-// Every slot of the keys.
-fn show_keys(keys: &[u64]) {
-    print::text(b"keys");
-    let mut i = 0;
-    while i < keys.len() {
-        print::text(b" ");
-        print::prefix(keys[i]);
-        i += 1;
-    }
-    print::text(b"\n");
+// A byte of the report on a line of numbers.
+fn row_number(n: u8) {
+    item(n as u64);
 }
 
-// Every slot of the hops.
-fn show_hops(hops: &[u16]) {
-    print::text(b"hops");
+// A hop on a line of numbers.
+fn hop(h: u16) {
+    item(h as u64);
+}
+
+// A key, as its prefix, on a line of them.
+fn key(k: u64) {
+    print::text(b" ");
+    print::prefix(k);
+}
+
+// One slot of a column, if it has one at this place.
+fn slot(column: Column, i: usize, report: &[u8], keys: &[u64], hops: &[u16]) {
+    match column {
+        Column::Report => {
+            if i < report.len() {
+                row_number(report[i]);
+            }
+        }
+        Column::Keys => {
+            if i < keys.len() {
+                key(keys[i]);
+            }
+        }
+        Column::Hops => {
+            if i < hops.len() {
+                hop(hops[i]);
+            }
+        }
+    }
+}
+
+// A column's name and its first `count` slots, on a line.
+fn show(name: &[u8], column: Column, count: usize, report: &[u8], keys: &[u64], hops: &[u16]) {
+    print::text(name);
     let mut i = 0;
-    while i < hops.len() {
-        item(hops[i] as u64);
+    while i < count {
+        slot(column, i, report, keys, hops);
         i += 1;
     }
     print::text(b"\n");
@@ -97,9 +118,9 @@ fn imported(feed: &[u8], keys: &mut [u64], hops: &mut [u16], report: &mut [u8]) 
         ImportEnd::Done => counts(0, c),
         ImportEnd::ReportShort => counts(12, c),
     }
-    show_report(report);
-    show_keys(keys);
-    show_hops(hops);
+    show(b"report", Column::Report, report.len(), report, keys, hops);
+    show(b"keys", Column::Keys, keys.len(), report, keys, hops);
+    show(b"hops", Column::Hops, hops.len(), report, keys, hops);
 }
 
 // An import into slots that hold what nothing has written, `k` for keys, `h` for hops and `r` for the report.

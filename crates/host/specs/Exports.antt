@@ -21,7 +21,7 @@ abbrev pub hostImportGave : WhelkCounts → List ℕ → List ℕ → List ℕ �
 hostImportGave w keys hops report =
     record { number = w .number; counts = countsIn w; keys = keys; hops = hops; report = report }
 
--- Rule 7.9: a lookup gives C hop + 65,536 × number.
+-- Rules 7.9 and 7.10: a lookup gives C hop + 65,536 × number.
 unfoldable pub lookupForC : LookupOutcome → ℕ
 lookupForC o = 65536 * o .number + o .hop
 

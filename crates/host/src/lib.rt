@@ -73,7 +73,7 @@ pub const LOOKUP_ILL_FORMED: u32 = NUMBER_UNIT * ground::ILL_FORMED;
 // A build's number stands above its count, and a run lookup's probes above its number and hop.
 pub const HIGH_UNIT: u64 = 4294967296;
 
-// Rule 7.9: a lookup gives C hop + 65,536 × number.
+// Rules 7.9 and 7.10: a lookup gives C hop + 65,536 × number.
 fn lookup_for_c(r: Looked) -> u32
     ensures { λ n. ⌜ n ≡ lookupForC (lookupGave r) ⌝ }
 {

@@ -1,5 +1,5 @@
--- The list after an announcement and after a withdrawal: which rows it has, that it is well-formed again, how many rows it has, and that the
--- plain answer stays as it was outside the edited prefix and inside a longer listed one within it.
+-- The list after an announcement and after a withdrawal: which rows it has, that it is well-formed again, how many rows it has, and that
+-- the plain answer stays as it was outside the edited prefix and inside a longer listed one within it.
 -- Assumes nothing.
 use mathlib.Core.Path.{_≡_, refl, sym, ap, _∙_, subst}
 use mathlib.Core.Logic.{_⊎_, inl, inr, ⊎-elim}
@@ -28,7 +28,8 @@ pub listed-has : (k : ℕ) (rows : List Row) → listed k rows ≡ true → (r :
 unfolding isIn
 listed-has k [] e = never-both e refl
 listed-has k (t ∷ ts) e =
-    ⊎-elim (λ q. (t, List·Memᴰ·head refl, sym (eqb-true _ _ q))) (λ q. further (listed-has k ts q)) (or-cases (eqb k (t .key)) (listed k ts) e)
+    ⊎-elim (λ q. (t, List·Memᴰ·head refl, sym (eqb-true _ _ q))) (λ q. further (listed-has k ts q))
+    (or-cases (eqb k (t .key)) (listed k ts) e)
   where
     further : ((r : Row) × Has r ts × (r .key ≡ k)) → (r : Row) × Has r (t ∷ ts) × (r .key ≡ k)
     further w = (w .0, List·Memᴰ·tail (w .1), w .2)
@@ -57,7 +58,8 @@ module _ (k h : ℕ) (t : Row) (ts : List Row) where
 
   pub announced-after : t .key < k → announced k h (t ∷ ts) ≡ t ∷ announced k h ts
   unfolding announced
-  announced-after l = cond-false _ _ (le-ltb k (t .key) (omega arith)) ∙ cond-false _ _ (ne-eqb _ _ (λ e. lt-irrefl _ (subst (λ x. t .key < x) e l)))
+  announced-after l =
+      cond-false _ _ (le-ltb k (t .key) (omega arith)) ∙ cond-false _ _ (ne-eqb _ _ (λ e. lt-irrefl _ (subst (λ x. t .key < x) e l)))
 
 -- where a key stands to another
 pub data Order (k k′ : ℕ) : Type 0 where
@@ -245,7 +247,8 @@ module _ (k h : ℕ) where
       early l (inl q) = lt-irrefl _ (subst (λ x. k < x) (ap (λ x. x .key) (sym q) ∙ found .2) l)
       early l (inr m) = lt-irrefl _ (lt-trans l (subst (λ x. t .key < x) (found .2) (first-below t ts a (found .0) m)))
 
-      go : Order k (t .key) → (listed k ts ≡ true → length (announced k h ts) ≡ length ts) → length (announced k h (t ∷ ts)) ≡ suc (length ts)
+      go : Order k (t .key) → (listed k ts ≡ true → length (announced k h ts) ≡ length ts)
+          → length (announced k h (t ∷ ts)) ≡ suc (length ts)
       go (before l) rec = absurd (early l (List·Memᴰ·cases-cons (found .1)))
       go (same q) rec = ap length (announced-at k h t ts q)
       go (after l) rec = ap length (announced-after k h t ts l) ∙ ap suc (rec (later l (List·Memᴰ·cases-cons (found .1))))

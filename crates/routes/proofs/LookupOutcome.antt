@@ -17,7 +17,8 @@ use Rattle.routes.specs.Lookup.{LookupOutcome, lookedUp, lookupGave, loo
 abbrev pub answer : Bool → ℕ → Looked
 answer ok hop = cond ok (Hop hop) IllFormed
 
-answered : (ok : Bool) (hop : ℕ) → lookupGave (answer ok hop) ≡ outcome (check (not ok) illFormed ∷ []) (λ n. lookedUp n 0) (lookedUp done hop)
+answered : (ok : Bool) (hop : ℕ)
+    → lookupGave (answer ok hop) ≡ outcome (check (not ok) illFormed ∷ []) (λ n. lookedUp n 0) (lookedUp done hop)
 unfolding firstFault outcome
 answered true hop = refl
 answered false hop = refl

@@ -36,12 +36,17 @@ record Top (rows : List Row) (r : Row) : Type 0 where
   top : (s : Row) → Has s rows → lengthOf (s .key) ≤ lengthOf (r .key)
 
 module _ (t : Row) (ts : List Row) where
+  -- what is at least as long as the first and as each of the others is at least as long as all
+  as-long : (n : ℕ) → lengthOf (t .key) ≤ n → ((s : Row) → Has s ts → lengthOf (s .key) ≤ n)
+      → (s : Row) → Has s (t ∷ ts) → lengthOf (s .key) ≤ n
+  as-long n first others s m = ⊎-elim (λ q. subst (λ x. lengthOf (x .key) ≤ n) (sym q) first) (others s) (List·Memᴰ·cases-cons m)
+
   top-alone : longest ts ≡ none → ((s : Row) → Has s ts → ⊥) → Top (t ∷ ts) t
   unfolding longest longer
   top-alone e none-in = record {
     found = ap (longer t) e;
     among = List·Memᴰ·head refl;
-    top = λ s m. ⊎-elim (λ q. subst (λ x. lengthOf (x .key) ≤ lengthOf (t .key)) (sym q) (le-refl _)) (λ n. absurd (none-in s n)) (List·Memᴰ·cases-cons m);
+    top = as-long _ (le-refl _) (λ s n. absurd (none-in s n));
   }
 
   module _ (r : Row) (p : Top ts r) where
@@ -50,7 +55,7 @@ module _ (t : Row) (ts : List Row) where
     top-first e = record {
       found = ap (longer t) (p .found) ∙ cond-true (some t) (some r) e;
       among = List·Memᴰ·head refl;
-      top = λ s m. ⊎-elim (λ q. subst (λ x. lengthOf (x .key) ≤ lengthOf (t .key)) (sym q) (le-refl _)) (λ n. le-trans (p .top s n) (leb-true _ _ e)) (List·Memᴰ·cases-cons m);
+      top = as-long _ (le-refl _) (λ s n. le-trans (p .top s n) (leb-true _ _ e));
     }
 
     top-later : leb (lengthOf (r .key)) (lengthOf (t .key)) ≡ false → Top (t ∷ ts) r
@@ -58,7 +63,7 @@ module _ (t : Row) (ts : List Row) where
     top-later e = record {
       found = ap (longer t) (p .found) ∙ cond-false (some t) (some r) e;
       among = List·Memᴰ·tail (p .among);
-      top = λ s m. ⊎-elim (λ q. subst (λ x. lengthOf (x .key) ≤ lengthOf (r .key)) (sym q) (le-of-lt (leb-false _ _ e))) (p .top s) (List·Memᴰ·cases-cons m);
+      top = as-long _ (le-of-lt (leb-false _ _ e)) (p .top);
     }
 
 -- some rows have a longest one, or there are none
@@ -67,7 +72,9 @@ longest-cases [] = inl (unfold longest in refl, λ s m. List·Memᴰ·not-nil m)
 longest-cases (t ∷ ts) = ⊎-elim (λ w. inr (t, top-alone t ts (w .0) (w .1))) (λ w. more (w .0) (w .1)) (longest-cases ts)
   where
     more : (r : Row) → Top ts r → ((longest (t ∷ ts) ≡ none) × ((s : Row) → Has s (t ∷ ts) → ⊥)) ⊎ ((r : Row) × Top (t ∷ ts) r)
-    more r p = ⊎-elim (λ e. inr (t, top-first t ts r p e)) (λ e. inr (r, top-later t ts r p e)) (decided (leb (lengthOf (r .key)) (lengthOf (t .key))))
+    more r p =
+        ⊎-elim (λ e. inr (t, top-first t ts r p e)) (λ e. inr (r, top-later t ts r p e))
+        (decided (leb (lengthOf (r .key)) (lengthOf (t .key))))
 
 module _ (rows : List Row) (a : ℕ) where
   has-matching : (r : Row) → Has r rows → holds (r .key) a ≡ true → Has r (matching a rows)
@@ -115,8 +122,8 @@ module _ (rows : List Row) (a : ℕ) where
   -- two longest matches are one row
   pub one-longest : ascending rows ≡ true → (r s : Row) → Longest rows a r → Longest rows a s → r ≡ s
   one-longest asc r s l k =
-      one-row rows asc r s (l .listed) (k .listed)
-      (same-key (r .key) (s .key) a (le-antisymm (k .longest r (l .listed) (l .matches)) (l .longest s (k .listed) (k .matches))) (l .matches) (k .matches))
+      let as-long = le-antisymm (k .longest r (l .listed) (l .matches)) (l .longest s (k .listed) (k .matches)) in
+      one-row rows asc r s (l .listed) (k .listed) (same-key (r .key) (s .key) a as-long (l .matches) (k .matches))
 
   -- Rule 2.12: the hop of the longest listed prefix that holds the address.
   pub plain-longest : ascending rows ≡ true → (r : Row) → Longest rows a r → plain rows a ≡ r .hop

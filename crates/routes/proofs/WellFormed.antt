@@ -19,16 +19,21 @@ use Rattle.routes.proofs.Row.{Has, every-has, has-every}
 pub first-below : (r : Row) (rows : List Row) → ascending (r ∷ rows) ≡ true → (s : Row) → Has s rows → r .key < s .key
 unfolding ascending ascends
 first-below r [] e s m = absurd (List·Memᴰ·not-nil m)
-first-below r (t ∷ ts) e s m = ⊎-elim (λ q. subst (λ x. r .key < x .key) (sym q) next) (λ n. lt-trans next (first-below t ts (and-right (below (r .key) (keysOf (t ∷ ts))) (ascends (keysOf (t ∷ ts))) e) s n)) (List·Memᴰ·cases-cons m)
+first-below r (t ∷ ts) e s m =
+    ⊎-elim (λ q. subst (λ x. r .key < x .key) (sym q) next) (λ n. lt-trans next (first-below t ts rest s n)) (List·Memᴰ·cases-cons m)
   where
     next : r .key < t .key
     next = ltb-true _ _ (and-left (below (r .key) (keysOf (t ∷ ts))) (ascends (keysOf (t ∷ ts))) e)
+
+    rest : ascends (keysOf (t ∷ ts)) ≡ true
+    rest = and-right (below (r .key) (keysOf (t ∷ ts))) (ascends (keysOf (t ∷ ts))) e
 
 pub ascending-tail : (r : Row) (rows : List Row) → ascending (r ∷ rows) ≡ true → ascending rows ≡ true
 unfolding ascending ascends
 ascending-tail r rows e = and-right (below (r .key) (keysOf rows)) (ascends (keysOf rows)) e
 
-pub ascending-cons : (r : Row) (rows : List Row) → ((s : Row) → Has s rows → r .key < s .key) → ascending rows ≡ true → ascending (r ∷ rows) ≡ true
+pub ascending-cons : (r : Row) (rows : List Row) → ((s : Row) → Has s rows → r .key < s .key) → ascending rows ≡ true
+    → ascending (r ∷ rows) ≡ true
 unfolding ascending ascends
 ascending-cons r [] h e = refl
 ascending-cons r (t ∷ ts) h e = and-both (lt-ltb _ _ (h t (List·Memᴰ·head refl))) e
@@ -55,11 +60,15 @@ module _ (rows : List Row) (e : goodRows rows ≡ true) where
   unfolding goodRows
   rest = and-right (hopsGiven rows) (halfRows rows) e
 
+  hops : hopsGiven rows ≡ true
+  unfolding goodRows
+  hops = and-left (hopsGiven rows) (halfRows rows) e
+
   pub good-parts : Good rows
   unfolding goodRows halfRows prefixes hopsGiven
   good-parts = record {
     prefixed = every-has (λ r. isPrefix (r .key)) rows (and-left (prefixes rows) (ascending rows) rest);
-    given = λ r m. eqb-false _ _ (not-true _ (every-has (λ r. not (eqb (r .hop) 0)) rows (and-left (hopsGiven rows) (halfRows rows) e) r m));
+    given = λ r m. eqb-false _ _ (not-true _ (every-has (λ r. not (eqb (r .hop) 0)) rows hops r m));
     ascends = and-right (prefixes rows) (ascending rows) rest;
   }
 

@@ -9,7 +9,7 @@ use Rattle.ground.specs.Column.{ascends}
 use Rattle.cidr.specs.Prefix.{isPrefix}
 use Rattle.routes.specs.Row.{Row, rowsOf, keysOf, every, listRoom}
 
--- Rule 2.7: each row's key is one.
+-- Rule 2.7: each row has a key.
 unfoldable pub prefixes : List Row → Bool
 prefixes rows = every (λ r. isPrefix (r .key)) rows
 

@@ -1,5 +1,5 @@
--- Demand 2, from the contracts alone: where a build was accepted, run lookup in what it left gives at every address what plain lookup
--- gives.
+-- Rule 17.2, demand 2, from the contracts alone: where a build was accepted, run lookup in what it left gives at every address what plain
+-- lookup gives.
 -- Assumes nothing.
 use mathlib.Core.Path.{_≡_, sym, ap, _∙_}
 use mathlib.Core.Logic.{⊎-elim}
@@ -36,7 +36,10 @@ module _ (l : ListLent) (t : SlotsLent) {n : ℕ} {starts hops : List ℕ} (b : 
   well : wellFormed (l .count) (l .keys) (l .hops) ≡ true
   well = ⊎-elim (λ e. e) (λ e. absurd (omega (arith, ap (λ (o : BuildOutcome). o .number) (b ∙ sym (build-ill l t e))))) (decided _)
 
-  left : built done n starts hops ≡ built done (length (runStarts (rowsLent l))) (written (runStarts (rowsLent l)) (t .starts)) (written (runHops (rowsLent l)) (t .hops))
+  left : built done n starts hops
+      ≡ built done (length (runStarts (rowsLent l)))
+      (written (runStarts (rowsLent l)) (t .starts))
+      (written (runHops (rowsLent l)) (t .hops))
   left = rows-done (rowsLent l) t (b ∙ build-well l t well)
 
   count-is : n ≡ length (runStarts (rowsLent l))

@@ -1,5 +1,5 @@
--- What a run lookup's outcome is, case by case: 11 where there are no runs or more than the slices hold, else the hop where halving ends and
--- its probes; and the same over run bytes. `RunsHalved` is what code that halves run bytes keeps true. An outcome is one answer's.
+-- What a run lookup's outcome is, case by case: 11 where there are no runs or more than the slices hold, else the hop where halving ends
+-- and its probes; and the same over run bytes. `RunsHalved` is what code that halves run bytes keeps true. An outcome is one answer's.
 -- Assumes nothing.
 use mathlib.Core.Path.{_≡_, refl, sym, ap, _∙_}
 use mathlib.Core.Bool.{Bool, true, false, cond}
@@ -42,7 +42,8 @@ module _ (t : RunsLent) where
     refused e = sym (outcome-refused (runChecks t) _ _ illFormed e (λ z. omega arith))
 
     pub accepted : firstFault (runChecks t) ≡ done
-        → runLookup t a ≡ probed done (getD (t .hops) (inSlices (t .count) (t .starts) a .low) 0) (inSlices (t .count) (t .starts) a .probes)
+        → runLookup t a
+        ≡ probed done (getD (t .hops) (inSlices (t .count) (t .starts) a .low) 0) (inSlices (t .count) (t .starts) a .probes)
     unfolding runLookup
     accepted e = outcome-done (runChecks t) _ _ e
 
@@ -78,7 +79,8 @@ module _ (bytes : List ℕ) where
   unfolding bytesLookup
   bytes-refused a e = sym (outcome-refused (bytesChecks bytes) _ _ illFormed e (λ z. omega arith))
 
-  pub bytes-looked-up : (a : ℕ) → firstFault (bytesChecks bytes) ≡ done → bytesLookup bytes a ≡ lookedUp done (hopAt bytes (inBytes bytes a .low))
+  pub bytes-looked-up : (a : ℕ) → firstFault (bytesChecks bytes) ≡ done
+      → bytesLookup bytes a ≡ lookedUp done (hopAt bytes (inBytes bytes a .low))
   unfolding bytesLookup
   bytes-looked-up a e = outcome-done (bytesChecks bytes) _ _ e
 
@@ -101,7 +103,8 @@ start-here bytes i = rw add-zero
 module _ {bytes : List ℕ} {a place apart : ℕ} (s : RunsHalved bytes a place apart) where
   pub runs-narrowed : {start place′ apart′ : ℕ} → 1 < apart → start ≡ fourFrom bytes (place * 6)
       → Narrowed (ltb a start) place apart place′ apart′ → RunsHalved bytes a place′ apart′
-  runs-narrowed far four t = record { probes = s .probes + 1; probing = probing-narrowed (s .probing) far (rw (four ∙ start-here bytes place) at t) }
+  runs-narrowed far four t =
+      record { probes = s .probes + 1; probing = probing-narrowed (s .probing) far (rw (four ∙ start-here bytes place) at t) }
 
   pub runs-end : {hop : ℕ} → apart ≤ 1 → firstFault (bytesChecks bytes) ≡ done
       → hop ≡ getD bytes (place * 6 + 4) 0 * 256 + getD bytes (place * 6 + 5) 0 → lookedUp done hop ≡ bytesLookup bytes a
@@ -115,5 +118,6 @@ one-answer (Hop h p) IllFormed e = absurd (omega (arith, ap (λ (o : RunLookupOu
 one-answer IllFormed (Hop h p) e = absurd (omega (arith, ap (λ (o : RunLookupOutcome). o .number) e))
 one-answer IllFormed IllFormed e = refl
 
-pub run-lookup-settled : (t : RunsLent) (a : ℕ) (r r′ : Probed) → runLookupGave r ≡ runLookup t a → runLookupGave r′ ≡ runLookup t a → r ≡ r′
+pub run-lookup-settled : (t : RunsLent) (a : ℕ) (r r′ : Probed)
+    → runLookupGave r ≡ runLookup t a → runLookupGave r′ ≡ runLookup t a → r ≡ r′
 run-lookup-settled t a r r′ e e′ = one-answer r r′ (e ∙ sym e′)

@@ -1,5 +1,5 @@
--- On the run table of a list, run lookup gives the plain answer at every address: in the first slots of lent slices, which may be longer,
--- and in its run bytes. Halving sees the first slots alone, and they are the run table, whose laws say that the hop is the answer.
+-- Rule 7.6: on the run table of a list, run lookup gives the plain answer at every address: in the first slots of lent slices, which may be
+-- longer, and in its run bytes. Halving sees the first slots alone, and they are the run table, whose laws say that the hop is the answer.
 -- Assumes nothing.
 use mathlib.Core.Path.{_≡_, refl, sym, ap, _∙_}
 use mathlib.Core.List.{List}

@@ -1,5 +1,5 @@
--- A build and a pair check are settled: two outcomes that keep the promise for one input are the same, in the answer and, for a build, in both
--- lent slices. An outcome tells its answer and its slices.
+-- Rule 17.1: a build and a pair check are settled. Two outcomes that keep the promise for one input are the same, in the answer and, for a
+-- build, in both lent slices. An outcome tells its answer and its slices.
 -- Assumes nothing.
 use mathlib.Core.Path.{_≡_, refl, sym, ap, _∙_}
 use mathlib.Core.Bool.{cond}

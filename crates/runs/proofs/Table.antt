@@ -45,8 +45,8 @@ table-of-turns f starts k = record {
         let lt = k .below (i + 1) l in
         let here = getD-map f starts i (omega arith) in
         let there = getD-map f starts (i + 1) l in
-        let same =
-        same-between-turns 0 f addresses starts k i (later - 1) (omega arith) (omega arith) (omega arith) (λ more. omega arith) in
+        let before = later - 1 in
+        let same = same-between-turns 0 f addresses starts k i before (omega arith) (omega arith) (omega arith) (λ more. omega arith) in
         let equal : f later ≡ f (later - 1) = cc in
         false≢true (sym (stays-of-same 0 f later (omega arith) equal) ∙ k .pass (i + 1) l)
 

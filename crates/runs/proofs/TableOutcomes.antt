@@ -36,7 +36,8 @@ module _ (l : ListLent) (s : SlotsLent) where
 
 -- where a build of rows is accepted, this is what it left
 pub rows-done : (rows : List Row) (s : SlotsLent) {n : ℕ} {starts hops : List ℕ} → built done n starts hops ≡ buildRows rows s
-    → built done n starts hops ≡ built done (length (runStarts rows)) (written (runStarts rows) (s .starts)) (written (runHops rows) (s .hops))
+    → built done n starts hops
+    ≡ built done (length (runStarts rows)) (written (runStarts rows) (s .starts)) (written (runHops rows) (s .hops))
 unfolding buildRows
 rows-done rows s {n} {starts} {hops} e = go (ltb (runRoom (s .starts) (s .hops)) (length (runStarts rows))) e
   where

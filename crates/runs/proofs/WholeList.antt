@@ -117,7 +117,8 @@ module _ {keys hops : List ℕ} (s : Sorted keys hops) (starts rhops : List ℕ)
         let few = leb-true (length (runStarts (allRows keys hops))) (runRoom starts rhops) e in
         (omega (arith, whole-count s), omega (arith, whole-count s))
 
-    pub rows-runs : {n : ℕ} {starts′ rhops′ : List ℕ} → RunsWritten (answer 0 (allRows keys hops)) 0 4294967296 starts rhops n starts′ rhops′
+    pub rows-runs : {n : ℕ} {starts′ rhops′ : List ℕ}
+        → RunsWritten (answer 0 (allRows keys hops)) 0 4294967296 starts rhops n starts′ rhops′
         → built done n starts′ rhops′ ≡ buildRows (allRows keys hops) (slotsLent starts rhops)
     unfolding buildRows
     rows-runs w =

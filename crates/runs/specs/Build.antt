@@ -18,7 +18,7 @@ use Rattle.runs.specs.Table.{runStarts, runHops}
 abbrev pub topRuns : ℕ
 topRuns = 2097153
 
--- Rule 6.5: a run table's room is the length of its shorter slice, but not more than that.
+-- Rule 6.5: a run table's room is the length of its shorter slice, but not more than `topRuns`.
 unfoldable pub runRoom : List ℕ → List ℕ → ℕ
 runRoom starts rhops = min (min (length starts) (length rhops)) topRuns
 

@@ -1,6 +1,6 @@
 -- Rule 6.3: a run table begins with address 0, each start is greater than the one before it, and no two runs side by side have the same
--- hop. At each address the hop of its run is the answer there. `f` is the answer at each address. `RunTable` is the rule, and `startsOf`
--- and `runHopsOf` are the one table that keeps it (`table-of`, `only-table`).
+-- hop. At each address the hop of its run is the answer there, `f`. `RunTable` is the rule, and `startsOf` and `runHopsOf` are the one
+-- table that keeps it (`table-of`, `only-table`).
 -- Assumes nothing.
 use mathlib.Core.Path.{_≡_}
 use mathlib.Core.List.{List, map}

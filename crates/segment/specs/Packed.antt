@@ -11,7 +11,7 @@ use Rattle.routes.specs.Row.{Row}
 use Rattle.routes.specs.Plain.{plain}
 
 -- Rule 9.2: the width is the greatest length among the listed prefixes in the segment that are longer than 16, less 16, and 0 if there are
--- none. A prefix longer than 16 lies in the segment if its network does. A shorter one gives 0, wherever it lies.
+-- none. A prefix longer than 16 lies in the segment if its network does. One of length 16 or less gives 0, wherever it lies.
 unfoldable pub width : ℕ → List Row → ℕ
 width q [] = 0
 width q (r ∷ rs) = max (cond (eqb (network (r .key) / 65536) q) (lengthOf (r .key) - 16) 0) (width q rs)

@@ -1,4 +1,4 @@
--- "[The second half] has n - k + 1 rows exactly."
+-- Rule 11.6: the count of the second half is n - k + 1.
 -- Assumes nothing.
 use mathlib.Core.Path.{_≡_}
 use mathlib.Core.List.{List}

@@ -16,8 +16,9 @@ network-requires c κs = search needs
 
 returns : tie.Need-returns
 returns c =
-    rw (c .network .ensures, c .before .cleared .ensures, c .before .before .bits-beyond .ensures)
-    (matched (c .before .before .before .args .key) (c .before .before .before .args .a))
+    let at-bits = c .before .before in
+    let args = at-bits .before .args in
+    rw (c .network .ensures, c .before .cleared .ensures, at-bits .bits-beyond .ensures) (matched (args .key) (args .a))
 
 pub holds-spec : {M : Type 1} → statement M
 holds-spec = tie.close (tie.spec bits-beyond-requires cleared-requires network-requires returns)

@@ -23,8 +23,9 @@ cleared-requires c κs = search needs
 
 returns-3 : tie.Need-returns-3
 returns-3 c =
-    rw (c .cleared .ensures, c .before .bits-beyond .ensures, c .before .before .before .before .network .ensures)
-    (aligned (c .before .before .before .before .before .args .key) (omega arith) (omega arith))
+    let at-network = c .before .before .before .before in
+    rw (c .cleared .ensures, c .before .bits-beyond .ensures, at-network .network .ensures)
+    (aligned (at-network .before .args .key) (omega arith) (omega arith))
 
 pub is-prefix-spec : {M : Type 1} → statement M
 is-prefix-spec = tie.close (tie.spec network-requires returns returns-2 bits-beyond-requires cleared-requires returns-3)

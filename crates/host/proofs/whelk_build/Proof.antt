@@ -17,10 +17,14 @@ same-length c = search needs
 same-length-2 : tie.Need-same-length-2
 same-length-2 c = search needs
 
+-- the build, from where the slices are known after it
+abbrev at-build : tie.After-slice-known4 → tie.After-build
+at-build c = c .before .before .before .before
+
 returns : tie.Need-returns
 returns c =
-    let built = c .before .before .before .before .before in
-    build-carried (built .build .result) (c .built-for-c .ensures) (built .build .ensures)
+    let b = at-build (c .before) .build in
+    build-carried (b .result) (c .built-for-c .ensures) (b .ensures)
 
 pub whelk-build-spec : {M : Type 1} → statement M
 whelk-build-spec =

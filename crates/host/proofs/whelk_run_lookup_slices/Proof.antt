@@ -1,5 +1,5 @@
--- `host::whelk_run_lookup_slices` meets its contract: the run lookup's outcome as one number. A slice has fewer than 2^64 slots, so there are at
--- most 64 probes.
+-- `host::whelk_run_lookup_slices` meets its contract: the run lookup's outcome as one number. A slice has fewer than 2^64 slots, so there
+-- are at most 64 probes.
 -- Assumes nothing.
 use mathlib.Core.Path.{ap, _∙_}
 use Rattle.runs.proofs.LookupOutcomes.{run-probes-at-most}

@@ -15,14 +15,19 @@ use Rattle.runs.proofs.build.Tie as tie
 list-ok-requires : tie.Need-list-ok-requires
 list-ok-requires c κs = search needs
 
--- the call, from the list test
-abbrev called : tie.After-list-ok → tie.Start
-called c =
-    let slices = c .before in
-    slices .before .before .before .before
+-- the start, from where the slices are known; the branch past the list test, from the arguments of `build_rows`; and the call of that, from
+-- where the slices are known after it
+abbrev at-start : tie.After-slice-known2 → tie.Start
+at-start c = c .before .before .before .before
+
+abbrev at-branch : tie.After-build-rows-arg4 → tie.Else1
+at-branch c = c .before .before .before .before
+
+abbrev at-build-rows : tie.After-slice-known4 → tie.After-build-rows
+at-build-rows c = c .before .before .before .before
 
 -- what the branch past the list test knows
-ok : (c : tie.Else1) → let a = called (c .before) .args in wellFormed (a .count) (now (a .keys)) (now (a .hops)) ≡ true
+ok : (c : tie.Else1) → let a = at-start (c .before .before) .args in wellFormed (a .count) (now (a .keys)) (now (a .hops)) ≡ true
 ok c = list-test _ _ _ (c .before .list-ok .ensures) ∙ not-false _ (c .if1 .left)
 
 returns : tie.Need-returns
@@ -35,7 +40,7 @@ slice-aggregate-build-rows-2 : tie.Need-slice-aggregate-build-rows-2
 slice-aggregate-build-rows-2 c = sym (length-take-le _ _ (in-hops _ _ _ (ok (c .before .before))))
 
 build-rows-requires : tie.Need-build-rows-requires
-build-rows-requires c κs = slices-sorted _ _ _ (ok (c .before .before .before .before))
+build-rows-requires c κs = slices-sorted _ _ _ (ok (at-branch c))
 
 same-length : tie.Need-same-length
 same-length c = search needs
@@ -45,10 +50,9 @@ same-length-2 c = search needs
 
 returns-2 : tie.Need-returns-2
 returns-2 c =
-    let built = c .before .before .before .before in
-    let lent = built .before in
-    let fine = ok (lent .before .before .before .before) in
-    rw (slices-rows _ _ _ fine) at (built .build-rows .ensures) ∙ sym (build-well _ _ fine)
+    let called = at-build-rows c in
+    let fine = ok (at-branch (called .before)) in
+    rw (slices-rows _ _ _ fine) at (called .build-rows .ensures) ∙ sym (build-well _ _ fine)
 
 pub build-spec : {M : Type 1} → statement M
 build-spec =

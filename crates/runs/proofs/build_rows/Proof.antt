@@ -27,28 +27,32 @@ same-length c = search needs
 same-length-2 : tie.Need-same-length-2
 same-length-2 c = search needs
 
--- the call, from the room
-abbrev called : tie.After-run-room → tie.Start
-called c =
-    let slices = c .before .before .before in
-    slices .before .before .before .before
+-- the start, from where the slices are known; that place, from the room test; and the call of `write_runs`, from where the slices are known
+-- after it
+abbrev at-start : tie.After-slice-known2 → tie.Start
+at-start c = c .before .before .before .before
+
+abbrev at-slices : tie.After-room-enough → tie.After-slice-known2
+at-slices c = c .before .before .before .before
+
+abbrev at-write-runs : tie.After-slice-known4 → tie.After-write-runs
+at-write-runs c = c .before .before .before .before
 
 -- what the branch past the room test knows
-enough : (c : tie.Else1) → let a = called (c .before .before) .args in
+enough : (c : tie.Else1) → let a = at-start (at-slices (c .before)) .args in
     leb (length (runStarts (allRows (now (a .keys)) (now (a .hops))))) (runRoom (now (a .starts)) (now (a .rhops))) ≡ true
 enough c = rw (sym (c .before .before .run-room .ensures)) (sym (c .before .room-enough .ensures) ∙ not-false _ (c .if1 .left))
 
 returns : tie.Need-returns
 returns c =
-    let room = c .before .before in
-    rows-no-room (called room .pre) _ _
-    (rw (sym (room .run-room .ensures)) (sym (c .before .room-enough .ensures) ∙ not-true _ (c .if1 .taken)))
+    rows-no-room (at-start (at-slices (c .before)) .pre) _ _
+    (rw (sym (c .before .before .run-room .ensures)) (sym (c .before .room-enough .ensures) ∙ not-true _ (c .if1 .taken)))
 
 write-runs-requires : tie.Need-write-runs-requires
 write-runs-requires c κs =
-    let fits = c .before .before in
-    let pre = called (fits .before .before) .pre in
-    let room = room-for-runs pre _ _ (enough fits) in
+    let branch = c .before .before in
+    let pre = at-start (at-slices (branch .before)) .pre in
+    let room = room-for-runs pre _ _ (enough branch) in
     (pre, (λ i l. omega arith), omega arith, omega arith, room .0, room .1)
 
 same-length-3 : tie.Need-same-length-3
@@ -59,9 +63,9 @@ same-length-4 c = search needs
 
 returns-2 : tie.Need-returns-2
 returns-2 c =
-    let written = c .before .before .before .before in
-    let fits = written .before .before .before in
-    rows-runs (called (fits .before .before) .pre) _ _ (enough fits) (written .write-runs .ensures)
+    let called = at-write-runs c in
+    let branch = called .before .before .before in
+    rows-runs (at-start (at-slices (branch .before)) .pre) _ _ (enough branch) (called .write-runs .ensures)
 
 pub build-rows-spec : {M : Type 1} → statement M
 build-rows-spec =

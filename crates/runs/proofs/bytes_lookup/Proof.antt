@@ -13,6 +13,13 @@ Inv-loop bytes a n s₀ s = RunsHalved bytes a (s .place) (s .apart)
 abbrev μ-loop : tie.MeasureT-loop
 μ-loop bytes a n s₀ s = s .apart
 
+-- the loop's test, from a turn in which the bracket is known, and from where it is known past the loop
+abbrev at-loop : tie.After-struct-known2 Inv-loop μ-loop → tie.At-loop Inv-loop μ-loop
+at-loop c = c .before .before .before
+
+abbrev at-last : tie.After-struct-known3 Inv-loop μ-loop → tie.At-loop Inv-loop μ-loop
+at-last c = c .before .before .before
+
 returns : tie.Need-returns Inv-loop μ-loop
 returns c = bytes-refused _ _ (no-bytes _ (omega arith))
 
@@ -23,32 +30,29 @@ loop-holds : tie.Need-loop-holds Inv-loop μ-loop
 loop-holds c = runs-start _ _ (omega arith)
 
 mul-start-from : tie.Need-mul-start-from Inv-loop μ-loop
-mul-start-from c = omega (arith, probing-bounds (c .before .before .before .loop .inv .probing))
+mul-start-from c = omega (arith, probing-bounds (at-loop c .loop .inv .probing))
 
 start-from-requires : tie.Need-start-from-requires Inv-loop μ-loop
-start-from-requires c κs = omega (arith, probing-bounds (c .before .before .before .loop .inv .probing))
+start-from-requires c κs = omega (arith, probing-bounds (at-loop c .loop .inv .probing))
 
 narrow-requires : tie.Need-narrow-requires Inv-loop μ-loop
-narrow-requires c κs = let b = probing-bounds (c .before .before .before .before .loop .inv .probing) in (b .0, omega arith)
+narrow-requires c κs = let b = probing-bounds (at-loop (c .before) .loop .inv .probing) in (b .0, omega arith)
 
 loop-less : tie.Need-loop-less Inv-loop μ-loop
 loop-less c = narrowed-closer (c .narrow .ensures) (omega arith)
 
 loop-again : tie.Need-loop-again Inv-loop μ-loop
-loop-again c =
-    let probe = c .before in
-    runs-narrowed (probe .before .before .before .before .loop .inv) (omega arith) (probe .start-from .ensures) (c .narrow .ensures)
+loop-again c = runs-narrowed (at-loop (c .before .before) .loop .inv) (omega arith) (c .before .start-from .ensures) (c .narrow .ensures)
 
 mul-hop-from : tie.Need-mul-hop-from Inv-loop μ-loop
-mul-hop-from c = omega (arith, probing-bounds (c .before .before .before .loop .inv .probing))
+mul-hop-from c = omega (arith, probing-bounds (at-last c .loop .inv .probing))
 
 hop-from-requires : tie.Need-hop-from-requires Inv-loop μ-loop
-hop-from-requires c κs = omega (arith, probing-bounds (c .before .before .before .loop .inv .probing))
+hop-from-requires c κs = omega (arith, probing-bounds (at-last c .loop .inv .probing))
 
 returns-3 : tie.Need-returns-3 Inv-loop μ-loop
 returns-3 c =
-    let l = c .before .before .before .before .loop in
-    runs-end (l .inv) (omega arith) (sixes-accepted _ (omega arith) (omega arith)) (c .hop-from .ensures)
+    runs-end (at-last (c .before) .loop .inv) (omega arith) (sixes-accepted _ (omega arith) (omega arith)) (c .hop-from .ensures)
 
 pub bytes-lookup-spec : {M : Type 1} → statement M
 bytes-lookup-spec =

@@ -19,22 +19,19 @@ use Rattle.runs.proofs.pair_check.Tie as tie
 list-ok-requires : tie.Need-list-ok-requires
 list-ok-requires c κs = search needs
 
--- the call, from the list test, and the branch past the room test, from the comparing
-abbrev called : tie.After-list-ok → tie.Start
-called c =
-    let slices = c .before in
-    slices .before .before .before .before
+-- the start, from where the slices are known, and the branch past the room test, from the arguments of `same_runs`
+abbrev at-start : tie.After-shared-slice-known4 → tie.Start
+at-start c = c .before .before .before .before
 
-abbrev in-room : tie.After-same-runs → tie.Else2
-in-room c =
-    let lent = c .before in
-    lent .before .before .before .before
+abbrev at-branch : tie.After-same-runs-arg4 → tie.Else2
+at-branch c = c .before .before .before .before
 
 -- what the branches past the list test and past the room test know
-ok : (c : tie.Else1) → let a = called (c .before) .args in wellFormed (a .count) (now (a .keys)) (now (a .hops)) ≡ true
+ok : (c : tie.Else1) → let a = at-start (c .before .before) .args in wellFormed (a .count) (now (a .keys)) (now (a .hops)) ≡ true
 ok c = list-test _ _ _ (c .before .list-ok .ensures) ∙ not-false _ (c .if1 .left)
 
-room : (c : tie.Else2) → let a = called (c .before .before .before) .args in a .runs ≤ runRoom (now (a .starts)) (now (a .rhops))
+room : (c : tie.Else2)
+    → let a = at-start (c .before .before .before .before) .args in a .runs ≤ runRoom (now (a .starts)) (now (a .rhops))
 room c = rw (sym (c .before .run-room .ensures)) (c .if2 .left)
 
 returns : tie.Need-returns
@@ -56,25 +53,25 @@ slice-aggregate-same-runs-3 : tie.Need-slice-aggregate-same-runs-3
 slice-aggregate-same-runs-3 c = sym (length-take-le _ _ (in-starts _ _ _ (room (c .before .before .before))))
 
 slice-aggregate-same-runs-4 : tie.Need-slice-aggregate-same-runs-4
-slice-aggregate-same-runs-4 c = sym (length-take-le _ _ (in-rhops _ _ _ (room (c .before .before .before .before))))
+slice-aggregate-same-runs-4 c = sym (length-take-le _ _ (in-rhops _ _ _ (room (at-branch c))))
 
 same-runs-requires : tie.Need-same-runs-requires
 same-runs-requires c κs =
-    let within = c .before .before .before .before in
-    (slices-sorted _ _ _ (ok (within .before .before)), (λ i l. omega arith), omega arith, omega arith, runs-paired _ _ _ (room within))
+    let branch = at-branch c in
+    (slices-sorted _ _ _ (ok (branch .before .before)), (λ i l. omega arith), omega arith, omega arith, runs-paired _ _ _ (room branch))
 
 returns-3 : tie.Need-returns-3
 returns-3 c =
-    let fits = in-room (c .before) in
-    let fine = ok (fits .before .before) in
-    let within = room fits in
+    let branch = at-branch (c .before .before) in
+    let fine = ok (branch .before .before) in
+    let within = room branch in
     pair-agreed _ fine within (its _ fine within (c .before .same-runs .ensures) ∙ c .if3 .taken)
 
 returns-4 : tie.Need-returns-4
 returns-4 c =
-    let fits = in-room (c .before) in
-    let fine = ok (fits .before .before) in
-    let within = room fits in
+    let branch = at-branch (c .before .before) in
+    let fine = ok (branch .before .before) in
+    let within = room branch in
     pair-differs _ fine within (its _ fine within (c .before .same-runs .ensures) ∙ c .if3 .left)
 
 pub pair-check-spec : {M : Type 1} → statement M

@@ -1,5 +1,6 @@
--- `ground::column16::insert` meets its contract. The loop keeps `Opening` true: the place i is free, and the column from i on stand one further.
--- It starts with the place behind the last hop, a turn frees the place before, and the last store fills the place that was asked for.
+-- `ground::column16::insert` meets its contract. The loop keeps `Opening` true: the place i is free, and the numbers from i on stand one
+-- further. It starts with the place behind the last number, a turn frees the place before, and the last store fills the place that was
+-- asked for.
 -- Assumes nothing.
 use mathlib.Core.Path.{sym}
 use Prim.Native.Nat.{_-_}

@@ -1,5 +1,6 @@
--- `ground::column64::remove` meets its contract. The loop keeps `Closing` true: the place i is to fill, and the column after the place that was
--- asked for, up to i, stand one before. A turn fills it with the key behind it, and the last store puts 0 where the last key stood.
+-- `ground::column64::remove` meets its contract. The loop keeps `Closing` true: the place i is to fill, and the numbers after the place
+-- that was asked for, up to i, stand one before. A turn fills it with the number behind it, and the last store puts 0 where the last one
+-- stood.
 -- Assumes nothing.
 use mathlib.Core.Path.{sym}
 use Prim.Native.Nat.{_-_}
