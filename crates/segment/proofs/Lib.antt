@@ -12,3 +12,5 @@ pub mod PackLaws
 pub mod AtBlock
 pub mod CountingHops
 pub mod WritingHops
+pub mod PackAgreed
+pub mod PackThenLookup

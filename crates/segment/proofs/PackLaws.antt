@@ -14,7 +14,7 @@ use borrow.Author.Tests.{lt-ltb, le-ltb}
 use Rattle.ground.specs.Numbers.{outcome, done, illFormed, noRoom, notItsRuns}
 use Rattle.ground.specs.Slots.{written}
 use Rattle.ground.proofs.Truth.{cond-false}
-use Rattle.ground.proofs.Numbers.{outcome-here, outcome-later, outcome-last}
+use Rattle.ground.proofs.Numbers.{outcome-here, outcome-later, outcome-last, fault-front, accepted-fault, accepted-is}
 use Rattle.runs.specs.Pair.{Pair, listOf, pairIll, itsRuns, pairChecks, pairCheck}
 use Rattle.runs.proofs.TableOutcomes.{pair-agrees, pair-is-ill, pair-is-other}
 use Rattle.segment.specs.declared.Walk.{Walk}
@@ -22,7 +22,7 @@ use Rattle.segment.specs.declared.Packing.{Packing}
 use Rattle.segment.specs.declared.Packing.the-variants.{Done, IllFormed, NotItsRuns, NoRoom}
 use Rattle.segment.specs.Packed.{width, blockHop, wordsFor, codeWords, basesFrom, keptHops, wordsOf, basesOf, packedHopsOf}
 use Rattle.segment.specs.Pack.{PackLent, PackOutcome, packLent, packRefused, packChecks, pack, packGave}
-use Rattle.segment.specs.Inside.Blocks.{Runs, begun, hopIn, noHop, hopBefore, Before, Grid, roomChecks, packBlocks}
+use Rattle.segment.specs.Inside.Blocks.{Runs, begun, hopIn, noHop, hopBefore, Before, Grid, roomChecks, blocksDone, packBlocks}
 use Rattle.segment.proofs.CodeWords.{length-code-words, length-code-bases}
 use Rattle.segment.proofs.Walking.{some-begun}
 
@@ -97,3 +97,13 @@ module _ (q : ℕ) (p : Pair) (l : PackLent) where
   pack-agreed e =
       let both = pair-agrees p e in
       outcome-later illFormed _ _ _ (both .0) ∙ outcome-later notItsRuns _ _ _ (ap not (both .1))
+
+  -- an accepted packing's pair agrees
+  pub pack-accepted : pack q p l .number ≡ done → pairCheck p ≡ done
+  unfolding pack packChecks pairCheck
+  pack-accepted e = fault-front (pairChecks p) _ (accepted-fault (λ (o : PackOutcome). o .number) _ (packRefused l) _ (λ n. refl) e)
+
+-- what an accepted packing of blocks leaves
+pub blocks-left : (w : ℕ) (hop : ℕ → ℕ) (l : PackLent) → packBlocks w hop l .number ≡ done → packBlocks w hop l ≡ blocksDone w hop l
+unfolding packBlocks
+blocks-left w hop l e = accepted-is (λ (o : PackOutcome). o .number) (roomChecks w hop l) (packRefused l) (blocksDone w hop l) (λ n. refl) e
