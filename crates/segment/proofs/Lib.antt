@@ -6,3 +6,4 @@ pub mod PackedFinds
 pub mod BlockHop
 pub mod WidthOf
 pub mod Walking
+pub mod WordMaking

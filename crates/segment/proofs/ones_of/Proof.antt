@@ -3,6 +3,7 @@
 use mathlib.Core.Path.{refl}
 use native.Mathlib.Omega.{arith}
 use lib.Count.{ones-le}
+use borrow.Author.Needs.{needs}
 use Rattle.segment.proofs.ones_of.Statement.{statement}
 use Rattle.segment.proofs.ones_of.Tie as tie
 
