@@ -7,3 +7,4 @@ pub mod BlockHop
 pub mod WidthOf
 pub mod Walking
 pub mod WordMaking
+pub mod WordsWriting

@@ -84,10 +84,10 @@ fn hop_of(hop: u32) -> u16
 }
 
 // The ones of a whole word.
-fn ones_of(word: u16) -> u16
+fn ones_of(word: u16) -> u32
     ensures { λ r. ⌜ (r ≡ ones word) × (r ≤ 16) ⌝ }
 {
-    u16::count_ones(word) as u16
+    u16::count_ones(word)
 }
 
 // How many runs begin at an address or before it, of which some are known.
@@ -154,7 +154,8 @@ fn word_at(starts: &[u32], rhops: &[u16], s: Walk, base: u64, size: u64, n: u64,
     Word { word, walk }
 }
 
-// The code words of all blocks and their bases, from the front of two slices.
+// The code words of all blocks and their bases, from the front of two slices. All 65,536 bits may be 1, so the ones are counted in 32 bits,
+// though each base fits 16.
 fn write_words(
     starts: &[u32],
     rhops: &[u16],
@@ -178,13 +179,12 @@ fn write_words(
     let mut walk = s;
     let mut first = 0;
     let mut j = 0;
-    let mut ones = 0;
+    let mut ones: u32 = 0;
     while first < n {
         let made = word_at(starts, rhops, walk, base, size, n, first);
-        let word = made.word;
-        words[j] = word;
-        bases[j] = ones;
-        ones += ones_of(word);
+        words[j] = made.word;
+        bases[j] = ones as u16;
+        ones += ones_of(made.word);
         walk = made.walk;
         j += 1;
         first += 16;

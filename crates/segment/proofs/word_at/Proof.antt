@@ -69,13 +69,11 @@ loop-less : tie.Need-loop-less Inv-loop μ-loop
 loop-less c = omega arith
 
 loop-again : tie.Need-loop-again Inv-loop μ-loop
-loop-again c =
-    let turn = c .before in
-    let inv = turn .before .loop .inv in
-    let more = turn .loop-test .taken in
-    ⊎-elim
-    (λ w. rw (w .3, w .4, w .5) (making-block inv more (start turn .pre .0) (w .0 .taken) (w .1 .ensures) (w .2 .ensures .0)))
-    (λ w. rw (w .1, w .2, w .3) (making-none inv more (w .0 .left)))
+loop-again c = ⊎-elim
+    (λ w. rw (w .3, w .4, w .5)
+    (making-block (c .before .before .loop .inv) (c .before .loop-test .taken) (start (c .before) .pre .0) (w .0 .taken) (w .1 .ensures)
+    (w .2 .ensures .0)))
+    (λ w. rw (w .1, w .2, w .3) (making-none (c .before .before .loop .inv) (c .before .loop-test .taken) (w .0 .left)))
     (c .if1 .came)
 
 returns : tie.Need-returns Inv-loop μ-loop
