@@ -14,3 +14,5 @@ pub mod CountingHops
 pub mod WritingHops
 pub mod PackAgreed
 pub mod PackThenLookup
+pub mod WordMaking
+pub mod WordsWriting
