@@ -16,3 +16,4 @@ pub mod PackAgreed
 pub mod PackThenLookup
 pub mod WordMaking
 pub mod WordsWriting
+pub mod Settled

@@ -81,6 +81,27 @@ module _ (w : ℕ) (hop : ℕ → ℕ) (l : PackLent) where
           (outcome-later noRoom _ _ _ words-fit ∙ outcome-later noRoom _ _ _ bases-fit
           ∙ outcome-last _ 12 _ _ ∙ cond-false _ _ (le-ltb _ _ (rw kept at fits)))
 
+-- the same as code has it, which knows the number of blocks and their size by names of their own
+module _ (starts rhops : List ℕ) (base w : ℕ) {size n : ℕ} (l : PackLent) (size-is : size ≡ 2 ^ (16 - w)) (n-is : n ≡ 2 ^ w) where
+  pub kept-short : wordsFor n ≤ length (l .words) → wordsFor n ≤ length (l .bases)
+      → length (l .hops) < length (keptHops (hopIn starts rhops base size) n)
+      → packRefused l noRoom ≡ packBlocks w (hopIn starts rhops base (2 ^ (16 - w))) l
+  kept-short a b short = hops-short w _ l (rw n-is at a) (rw n-is at b) (rw (size-is, n-is) at short)
+
+  pub blocks-written : {count kept : ℕ} {words′ bases′ hops′ : List ℕ} → wordsFor n ≤ length (l .words) → wordsFor n ≤ length (l .bases)
+      → count ≡ wordsFor n → kept ≡ length (keptHops (hopIn starts rhops base size) n) → kept ≤ length (l .hops)
+      → words′ ≡ written (codeWords (hopIn starts rhops base size) n) (l .words)
+      → bases′ ≡ written (basesFrom 0 (codeWords (hopIn starts rhops base size) n)) (l .bases)
+      → hops′ ≡ written (keptHops (hopIn starts rhops base size) n) (l .hops)
+      → packGave (Done w count kept) words′ bases′ hops′ ≡ packBlocks w (hopIn starts rhops base (2 ^ (16 - w))) l
+  blocks-written a b c d e f g h =
+      all-written w _ l (rw n-is at a) (rw n-is at b) (rw n-is at c) (rw (size-is, n-is) at d) e (rw (size-is, n-is) at f)
+      (rw (size-is, n-is) at g) (rw (size-is, n-is) at h)
+
+pub same-width : (starts rhops : List ℕ) (base : ℕ) {w w′ : ℕ} (l : PackLent) → w ≡ w′
+    → packBlocks w (hopIn starts rhops base (2 ^ (16 - w))) l ≡ packBlocks w′ (hopIn starts rhops base (2 ^ (16 - w′))) l
+same-width starts rhops base l e = rw e
+
 module _ (q : ℕ) (p : Pair) (l : PackLent) where
   pub pack-ill : pairCheck p ≡ illFormed → packRefused l illFormed ≡ pack q p l
   unfolding pack packChecks pairChecks
