@@ -64,7 +64,7 @@ module _ (feed : List ℕ) (l : ImportLent) {r : Imported} {keys hops report : L
   report-is : report ≡ written (rowNumbers room feed) (l .report)
   report-is = ap (λ o. o .report) accepted
 
-  -- "rows in = rows taken + rows refused, reason by reason"
+  -- demand 1: rows in are rows taken and rows refused, reason by reason
   pub rows-are-taken-and-refused : c .rows
       ≡ rowsWith rowTaken c
       + (rowsWith rowShape c + (rowsWith rowRange c + (rowsWith rowHostBits c + (rowsWith rowRepeat c + rowsWith rowNoRoom c))))

@@ -1,4 +1,4 @@
--- Document 01 settles an import and a row's reading: two outcomes that keep the promise for one input are the same.
+-- An import and a row's reading are settled: two outcomes that keep the promise for one input are the same.
 -- Assumes nothing.
 use mathlib.Core.Path.{_≡_, refl, sym, ap, _∙_}
 use mathlib.Core.Bool.{cond}

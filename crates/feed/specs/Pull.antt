@@ -1,5 +1,5 @@
--- "A pull gives the next row's prefix and hop, or its number 1, 2 or 3, and in each case the place after its LF, or the feed's end if it
--- has none; with the place at or past the end it gives no row and the same place."
+-- Rules 4.11 to 4.14: a pull reads the row from its place on and gives what the row says, with the place behind its LF or the feed's end.
+-- At or past the end it gives no row and the same place.
 -- Assumes nothing.
 use mathlib.Core.List.{List, [], _∷_}
 use mathlib.Core.Option.{Option, none, some}

@@ -1,5 +1,5 @@
--- What one row says by itself. "A good row is `a.b.c.d/len hop`: octets of 1 to 3 digits, length of 1 or 2, one space, hop of 1 to 5.
--- Leading zeros are read as decimal. CR, tab and further spaces are bad shape." Then numbers 1, 2 and 3 of the table, in its order.
+-- Rules 3.3 to 3.7: what one row says by itself. Its form is six numbers with five marks between them (3.3), zeros in front change
+-- nothing (3.4), and the whole form is judged before any value (3.6). Then come numbers 1, 2 and 3, in this order (3.7).
 -- Assumes nothing.
 use mathlib.Core.Bool.{Bool, true, false, not, cond, _&&_, _||_}
 use mathlib.Core.List.{List, [], _∷_, map}
@@ -91,12 +91,12 @@ valuesOf ns = inPlaces (map (valueFrom 0) ns)
 abbrev pub addressOf : Values → ℕ
 addressOf v = dotted (v .a) (v .b) (v .c) (v .d)
 
--- range: "an octet over 255, length over 32, hop 0 or over 65,535"
+-- Rule 3.7, number 2: an octet is above 255, the length is above 32, or the hop is 0 or above 65,535.
 unfoldable pub outOfRange : Values → Bool
 outOfRange v =
     (ltb 255 (v .a) || ltb 255 (v .b) || ltb 255 (v .c) || ltb 255 (v .d)) || ltb 32 (v .len) || (eqb (v .hop) 0 || ltb 65535 (v .hop))
 
--- host bits: "a bit of the address beyond the length is 1"
+-- Rule 3.7, number 3: the address has a host bit that is 1.
 unfoldable pub hasHostBits : Values → Bool
 hasHostBits v = not (eqb (hostBits (v .len) (addressOf v)) 0)
 

@@ -1,5 +1,4 @@
--- The number of a row: 1 shape, 2 range, 3 host bits, 4 repeat, 5 no room, 0 taken. Each number with its name, and how many rows have it:
--- "seven counts: rows, taken, and numbers 1 to 5".
+-- Rule 3.7: the number of a row, each with its name. Rule 4.5: how many rows there are, and how many have each number.
 -- A new row number is its constant, its line in `reasons`, and its check in the order of checks (`Reading`, `Import`).
 -- Assumes nothing.
 use mathlib.Core.Bool.{Bool, true, false}

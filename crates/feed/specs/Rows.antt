@@ -1,5 +1,5 @@
--- "A row is the bytes before an LF. Bytes after the last LF, if there are any, are one more row. The empty feed has no rows; LF alone
--- is one empty row."
+-- Rule 3.1: an LF ends the row before it, and what stands behind the last LF is a row too, unless it is nothing. Rule 3.2: a feed of no
+-- bytes has no rows, and two LFs side by side have an empty row between them.
 -- Assumes nothing.
 use mathlib.Core.Bool.{cond}
 use mathlib.Core.List.{List, [], _∷_}

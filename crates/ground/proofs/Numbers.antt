@@ -63,7 +63,8 @@ module _ {A : Type 0} (number : A → ℕ) (checks : List Check) (refused : ℕ 
   unfolding outcome
   accepted-fault = go (eqb (firstFault checks) done) refl e
     where
-      go : (b : Bool) → eqb (firstFault checks) done ≡ b → number (cond b accepted (refused (firstFault checks))) ≡ done → firstFault checks ≡ done
+      go : (b : Bool) → eqb (firstFault checks) done ≡ b → number (cond b accepted (refused (firstFault checks))) ≡ done
+          → firstFault checks ≡ done
       go true z q = eqb-true (firstFault checks) done z
       go false z q = sym (says (firstFault checks)) ∙ q
 

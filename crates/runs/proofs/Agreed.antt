@@ -1,5 +1,5 @@
--- What a pair is of which the pair check says done: the list is well-formed, so the keys of its rows are the first of the slice, prefixes and
--- ascending; and the first slots of the starts and hops are the list's run table. Packing and edits begin with it.
+-- What a pair is of which the pair check says done: the list is well-formed, so the keys of its rows are the first of the slice, prefixes
+-- and ascending; and the first slots of the starts and hops are the list's run table. Packing and edits begin with it.
 -- Assumes nothing.
 use mathlib.Core.Path.{_≡_}
 use mathlib.Core.Bool.{true, not}
@@ -35,11 +35,13 @@ module _ (p : Pair) (agreed : pairCheck p ≡ done) where
 
   pub agreed-starts : take (p .table .count) (p .table .starts) ≡ runStarts (listOf p)
   unfolding itsRuns
-  agreed-starts = same-is _ _ (and-left (same (take (p .table .count) (p .table .starts)) (runStarts (listOf p))) _ (pair-agrees p agreed .1))
+  agreed-starts =
+      same-is _ _ (and-left (same (take (p .table .count) (p .table .starts)) (runStarts (listOf p))) _ (pair-agrees p agreed .1))
 
   pub agreed-hops : take (p .table .count) (p .table .hops) ≡ runHops (listOf p)
   unfolding itsRuns
-  agreed-hops = same-is _ _ (and-right (same (take (p .table .count) (p .table .starts)) (runStarts (listOf p))) _ (pair-agrees p agreed .1))
+  agreed-hops =
+      same-is _ _ (and-right (same (take (p .table .count) (p .table .starts)) (runStarts (listOf p))) _ (pair-agrees p agreed .1))
 
   -- the run table, as the slices of its runs
   pub agreed-table : RunTable (plain (listOf p)) (take (p .table .count) (p .table .starts)) (take (p .table .count) (p .table .hops))

@@ -78,7 +78,8 @@ module _ (p : Pair) where
 
 -- what each number of the pair check says of its two checks
 module _ (p : Pair) where
-  both : (ill its : Bool) → firstFault (check ill illFormed ∷ check (not its) notItsRuns ∷ []) ≡ cond ill illFormed (cond its done notItsRuns)
+  both : (ill its : Bool)
+      → firstFault (check ill illFormed ∷ check (not its) notItsRuns ∷ []) ≡ cond ill illFormed (cond its done notItsRuns)
   unfolding firstFault
   both true its = refl
   both false true = refl

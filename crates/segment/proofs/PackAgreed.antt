@@ -1,5 +1,5 @@
--- What is packed of a pair that agrees: its keys give the segment's width, and the run table's answer at each block is the plain one, so packing the
--- table's blocks is packing the segment.
+-- What is packed of a pair that agrees: its keys give the segment's width, and the run table's answer at each block is the plain one, so
+-- packing the table's blocks is packing the segment.
 -- Assumes nothing.
 use mathlib.Core.Path.{_≡_, sym, ap, _∙_}
 use Prim.Native.Nat.{ℕ, _+_, _-_, _*_, _^_, _≤_, _<_}

@@ -1,5 +1,5 @@
--- What packing gives, check by check: the pair's number, 13 where one of the three slices is too short, else the three slices written. Where the pair
--- agrees, what is left to do is packing blocks (`pack-agreed`).
+-- What packing gives, check by check: the pair's number, 13 where one of the three slices is too short, else the three slices written.
+-- Where the pair agrees, what is left to do is packing blocks (`pack-agreed`).
 -- Assumes nothing.
 use mathlib.Core.Path.{_≡_, refl, sym, ap, _∙_}
 use mathlib.Core.Bool.{false, not}
@@ -49,7 +49,10 @@ same-done w e f g h k = cc
 module _ (w : ℕ) (hop : ℕ → ℕ) (l : PackLent) where
   pub words-short : length (l .words) < wordsFor (2 ^ w) → packRefused l noRoom ≡ packBlocks w hop l
   unfolding packBlocks roomChecks
-  words-short short = sym (outcome-here 12 _ _ _ (lt-ltb (length (l .words)) (length (codeWords hop (2 ^ w))) (rw (length-code-words hop (2 ^ w)) short)))
+  words-short short =
+      sym
+      (outcome-here 12 _ _ _
+      (lt-ltb (length (l .words)) (length (codeWords hop (2 ^ w))) (rw (length-code-words hop (2 ^ w)) short)))
 
   module _ (words : wordsFor (2 ^ w) ≤ length (l .words)) where
     words-fit : ltb (length (l .words)) (length (codeWords hop (2 ^ w))) ≡ false
@@ -58,7 +61,10 @@ module _ (w : ℕ) (hop : ℕ → ℕ) (l : PackLent) where
     pub bases-short : length (l .bases) < wordsFor (2 ^ w) → packRefused l noRoom ≡ packBlocks w hop l
     unfolding packBlocks roomChecks
     bases-short short =
-        sym (outcome-later noRoom _ _ _ words-fit ∙ outcome-here 12 _ _ _ (lt-ltb (length (l .bases)) (length (basesFrom 0 (codeWords hop (2 ^ w)))) (rw (length-code-bases hop (2 ^ w)) short)))
+        sym
+        (outcome-later noRoom _ _ _ words-fit
+        ∙ outcome-here 12 _ _ _
+        (lt-ltb (length (l .bases)) (length (basesFrom 0 (codeWords hop (2 ^ w)))) (rw (length-code-bases hop (2 ^ w)) short)))
 
     module _ (bases : wordsFor (2 ^ w) ≤ length (l .bases)) where
       bases-fit : ltb (length (l .bases)) (length (basesFrom 0 (codeWords hop (2 ^ w)))) ≡ false

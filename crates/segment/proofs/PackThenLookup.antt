@@ -1,5 +1,5 @@
--- Rule 9.14, demand 2, from the contracts alone: where a packing was accepted, packed lookup in what it left gives the plain answer at every address
--- of the segment. The packed form finds each block's hop, and a block has one plain answer.
+-- Rule 9.14, demand 2, from the contracts alone: where a packing was accepted, packed lookup in what it left gives the plain answer at
+-- every address of the segment. The packed form finds each block's hop, and a block has one plain answer.
 -- Assumes nothing.
 use mathlib.Core.Path.{_≡_, sym, ap, _∙_}
 use mathlib.Core.List.{List}

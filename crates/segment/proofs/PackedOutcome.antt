@@ -1,5 +1,5 @@
--- What a packed lookup's outcome is, check by check: 19 for a width above 16, for a block without word or base, and for a place before the first
--- hop or past the last one; else the hop at the place. And an outcome is one answer's.
+-- What a packed lookup's outcome is, check by check: 19 for a width above 16, for a block without word or base, and for a place before
+-- the first hop or past the last one; else the hop at the place. And an outcome is one answer's.
 -- Assumes nothing.
 use mathlib.Core.Path.{_≡_, refl, sym, ap, _∙_}
 use mathlib.Core.Bool.{_||_}
@@ -78,6 +78,7 @@ one-answer (Hop h) Outside e = absurd (omega (arith, ap (λ (o : LookupOutcome).
 one-answer Outside (Hop h′) e = absurd (omega (arith, ap (λ (o : LookupOutcome). o .number) e))
 one-answer Outside Outside e = refl
 
-pub packed-lookup-settled : (s : SegmentLent) (a : ℕ) (r r′ : PackedHop) → packedGave r ≡ packedLookup s a → packedGave r′ ≡ packedLookup s a
+pub packed-lookup-settled : (s : SegmentLent) (a : ℕ) (r r′ : PackedHop) → packedGave r ≡ packedLookup s a
+    → packedGave r′ ≡ packedLookup s a
     → r ≡ r′
 packed-lookup-settled s a r r′ e e′ = one-answer r r′ (e ∙ sym e′)

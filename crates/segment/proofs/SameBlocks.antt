@@ -1,5 +1,5 @@
--- Packing looks at the hops of its n blocks and at no others: two ways to give a block its hop that agree on them are packed alike. And the hop that
--- the walk finds in a run table is the table's answer.
+-- Packing looks at the hops of its n blocks and at no others: two ways to give a block its hop that agree on them are packed alike. And
+-- the hop that the walk finds in a run table is the table's answer.
 -- Assumes nothing.
 use mathlib.Core.Path.{_≡_, refl, _∙_, fun-ext}
 use mathlib.Core.Logic.{⊎-elim}
@@ -27,7 +27,8 @@ module _ (hop hop′ : ℕ → ℕ) (n : ℕ) (agree : (b : ℕ) → b < n → h
   unfolding bit turnsFrom
   same-bit b = go (ltb b n) refl
     where
-      go : (z : Bool) → ltb b n ≡ z → (z && (eqb b 0 || not (eqb (hop b) (hop (b - 1))))) ≡ (z && (eqb b 0 || not (eqb (hop′ b) (hop′ (b - 1)))))
+      go : (z : Bool) → ltb b n ≡ z
+          → (z && (eqb b 0 || not (eqb (hop b) (hop (b - 1))))) ≡ (z && (eqb b 0 || not (eqb (hop′ b) (hop′ (b - 1)))))
       go true e = let l = ltb-true b n e in rw (agree b l, agree (b - 1) (omega arith))
       go false e = refl
 
@@ -52,7 +53,8 @@ module _ (hop hop′ : ℕ → ℕ) (n : ℕ) (agree : (b : ℕ) → b < n → h
   unfolding keptHops
   same-hops = same-kept (bit hop n) 0 n (omega arith) ∙ rw same-bits
 
-pub same-packed : (w : ℕ) (hop hop′ : ℕ → ℕ) → ((b : ℕ) → b < 2 ^ w → hop b ≡ hop′ b) → (l : PackLent) → packBlocks w hop l ≡ packBlocks w hop′ l
+pub same-packed : (w : ℕ) (hop hop′ : ℕ → ℕ) → ((b : ℕ) → b < 2 ^ w → hop b ≡ hop′ b) → (l : PackLent)
+    → packBlocks w hop l ≡ packBlocks w hop′ l
 unfolding packBlocks roomChecks
 same-packed w hop hop′ agree l = rw (same-words hop hop′ (2 ^ w) agree, same-hops hop hop′ (2 ^ w) agree)
 
@@ -77,7 +79,8 @@ module _ {f : ℕ → ℕ} {starts rhops : List ℕ} (t : RunTable f starts rhop
       at-most : getD starts (begun starts a - 1) 0 ≤ a
       at-most = ⊎-elim
           (λ e. omega (arith, ltb-true (getD starts (begun starts a - 1) 0) (a + 1) e))
-          (λ e. absurd (omega (arith, some, lower-beyond (a + 1) starts asc (begun starts a - 1) (omega (arith, some, upto)) (ltb-false _ _ e))))
+          (λ e. absurd
+          (omega (arith, some, lower-beyond (a + 1) starts asc (begun starts a - 1) (omega (arith, some, upto)) (ltb-false _ _ e))))
           (decided (ltb (getD starts (begun starts a - 1) 0) (a + 1)))
 
       next : begun starts a - 1 + 1 < length starts → a < getD starts (begun starts a - 1 + 1) 0

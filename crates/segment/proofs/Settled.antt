@@ -1,5 +1,5 @@
--- Packing is settled: two outcomes that keep the promise for one input are the same, in the answer and in each lent slice. An outcome tells its
--- answer and its slices. (`packed-lookup-settled` stands in PackedOutcome.)
+-- Packing is settled: two outcomes that keep the promise for one input are the same, in the answer and in each lent slice. An outcome
+-- tells its answer and its slices. (`packed-lookup-settled` stands in PackedOutcome.)
 -- Assumes nothing.
 use mathlib.Core.Path.{_≡_, refl, sym, ap, _∙_}
 use mathlib.Core.Bool.{cond}

@@ -1,5 +1,5 @@
--- The walk over a run table from block to block. More runs have begun at a later address; one has begun at every address, since the first start
--- is 0. So where the walk stands at a block it may go on to the next one, with that block's hop as the last.
+-- The walk over a run table from block to block. More runs have begun at a later address; one has begun at every address, since the first
+-- start is 0. So where the walk stands at a block it may go on to the next one, with that block's hop as the last.
 -- Assumes nothing.
 use mathlib.Core.Path.{_≡_, refl}
 use mathlib.Core.Bool.{Bool, true, false, not, cond, _||_}

@@ -1,5 +1,5 @@
--- How the width comes from ascending keys: the walk starts at the segment's first key and keeps the width of all keys before its place. A key of the
--- segment may widen it, and at the first key behind the segment, or at the end, it is the width of all keys.
+-- How the width comes from ascending keys: the walk starts at the segment's first key and keeps the width of all keys before its place. A
+-- key of the segment may widen it, and at the first key behind the segment, or at the end, it is the width of all keys.
 -- Assumes nothing.
 use mathlib.Core.Path.{_≡_, sym, ap, _∙_}
 use mathlib.Core.Bool.{true}

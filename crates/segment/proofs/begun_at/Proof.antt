@@ -1,5 +1,5 @@
--- `segment::begun_at` meets its contract. The loop's invariant: no more runs are counted than have begun. The next start decides: if it is past
--- the address, no further run has begun. The measure is how many starts are left.
+-- `segment::begun_at` meets its contract. The loop's invariant: no more runs are counted than have begun. The next start decides: if it
+-- is past the address, no further run has begun. The measure is how many starts are left.
 -- Assumes nothing.
 use mathlib.Core.Path.{_≡_}
 use mathlib.Core.Bool.{true}

@@ -90,7 +90,8 @@ returns-3 : tie.Need-returns-3
 returns-3 c =
     let made = packed (c .before .before .before) in
     let b = at-branch (made .before .before .before .before) in
-    made .pack-segment .ensures ∙ segment-packed (start (at-pair b) .args .q) _ (agreed b) (omega (arith, start (at-pair b) .fits .q .fits)) _
+    let s = start (at-pair b) in
+    made .pack-segment .ensures ∙ segment-packed (s .args .q) _ (agreed b) (omega (arith, s .fits .q .fits)) _
 
 pub pack-spec : {M : Type 1} → statement M
 pack-spec =

@@ -1,5 +1,5 @@
--- `segment::pack_blocks` meets its contract: each slice that is too short is 13 before anything is written, and else the words, bases and hops are
--- those of the blocks. The blocks cover the segment, and the walk starts with the run that holds its first address.
+-- `segment::pack_blocks` meets its contract: each slice that is too short is 13 before anything is written, and else the words, bases and
+-- hops are those of the blocks. The blocks cover the segment, and the walk starts with the run that holds its first address.
 -- Assumes nothing.
 use mathlib.Core.Path.{_≡_, refl, ap, _∙_}
 use Prim.Native.Nat.{_^_}
@@ -12,8 +12,8 @@ use borrow.Author.Needs.{needs}
 use Rattle.segment.proofs.pack_blocks.Statement.{statement}
 use Rattle.segment.proofs.pack_blocks.Tie as tie
 
--- the start, from the first power; the words' count, from the place where the hops are counted; that place, from the first write; and the first
--- write, from the end
+-- the start, from the first power; the words' count, from the place where the hops are counted; that place, from the first write; and the
+-- first write, from the end
 abbrev at-slices : tie.After-power → tie.After-slice-known
 at-slices c = c .before .before .before
 

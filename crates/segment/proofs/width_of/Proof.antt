@@ -1,5 +1,5 @@
--- `segment::width_of` meets its contract. The loop keeps `Widening` true: the width is that of the keys before place i. The measure is how many keys
--- are left.
+-- `segment::width_of` meets its contract. The loop keeps `Widening` true: the width is that of the keys before place i. The measure is
+-- how many keys are left.
 -- Assumes nothing.
 use mathlib.Core.Path.{refl}
 use mathlib.Core.Logic.{⊎-elim}

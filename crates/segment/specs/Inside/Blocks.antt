@@ -1,5 +1,5 @@
--- The blocks of a segment as the walk over a run table sees them. The table's answer at an address is the hop of the last run that begins at it
--- or before it, so the walk keeps how many runs have begun.
+-- The blocks of a segment as the walk over a run table sees them. The table's answer at an address is the hop of the last run that begins
+-- at it or before it, so the walk keeps how many runs have begun.
 -- Assumes nothing.
 use mathlib.Core.Path.{_≡_}
 use mathlib.Core.Bool.{true, cond}

@@ -1,5 +1,5 @@
--- `halving::column64::lower` meets its contract. The loop keeps `Finding` true: halving for k - 1 is halfway. The measure is how far high is from
--- low.
+-- `halving::column64::lower` meets its contract. The loop keeps `Finding` true: halving for k - 1 is halfway. The measure is how far high
+-- is from low.
 -- Assumes nothing.
 use native.Mathlib.Omega.{arith}
 use Rattle.halving.proofs.Halving.{narrowed-closer}
