@@ -1,11 +1,12 @@
 -- Which number a call's checks give, check by check, and the outcome that goes with it.
 -- Assumes nothing.
-use mathlib.Core.Path.{_≡_, refl}
+use mathlib.Core.Path.{_≡_, refl, sym, _∙_}
 use mathlib.Core.Bool.{Bool, true, false, cond}
-use mathlib.Core.List.{List, [], _∷_}
+use mathlib.Core.List.{List, [], _∷_, _++_}
 use Prim.Native.Nat.{ℕ, suc}
 use native.Mathlib.Omega.{arith}
-use borrow.Author.Tests.{eq-eqb, ne-eqb}
+use lib.Dec.{eqb}
+use borrow.Author.Tests.{eq-eqb, ne-eqb, eqb-true}
 use Rattle.ground.specs.Numbers.{Check, check, firstFault, outcome, done}
 
 module _ {b : Bool} (n : ℕ) (cs : List Check) where
@@ -43,3 +44,28 @@ pub outcome-last {ℓ} : {A : Type ℓ} (b : Bool) (n : ℕ) (refused : ℕ → 
 unfolding outcome firstFault
 outcome-last true n refused accepted = rw (ne-eqb (suc n) done (λ z. omega arith))
 outcome-last false n refused accepted = refl
+
+-- checks that give 0 give it in their first part too
+pub fault-front : (xs ys : List Check) → firstFault (xs ++ ys) ≡ done → firstFault xs ≡ done
+unfolding firstFault
+fault-front [] ys e = refl
+fault-front (c ∷ cs) ys e = go (c .fault) e (fault-front cs ys)
+  where
+    go : (b : Bool) → cond b (c .gives) (firstFault (cs ++ ys)) ≡ done → (firstFault (cs ++ ys) ≡ done → firstFault cs ≡ done)
+        → cond b (c .gives) (firstFault cs) ≡ done
+    go true q rest = q
+    go false q rest = rest q
+
+-- an outcome whose number is 0 is that of an accepted call
+module _ {A : Type 0} (number : A → ℕ) (checks : List Check) (refused : ℕ → A) (accepted : A)
+    (says : (n : ℕ) → number (refused n) ≡ n) (e : number (outcome checks refused accepted) ≡ done) where
+  pub accepted-fault : firstFault checks ≡ done
+  unfolding outcome
+  accepted-fault = go (eqb (firstFault checks) done) refl e
+    where
+      go : (b : Bool) → eqb (firstFault checks) done ≡ b → number (cond b accepted (refused (firstFault checks))) ≡ done → firstFault checks ≡ done
+      go true z q = eqb-true (firstFault checks) done z
+      go false z q = sym (says (firstFault checks)) ∙ q
+
+  pub accepted-is : outcome checks refused accepted ≡ accepted
+  accepted-is = outcome-done checks refused accepted accepted-fault

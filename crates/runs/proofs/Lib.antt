@@ -6,3 +6,4 @@ pub mod WholeList
 pub mod TableOutcomes
 pub mod Settled
 pub mod BuildThenLookup
+pub mod Agreed

@@ -12,3 +12,8 @@ pub mod PackLaws
 pub mod AtBlock
 pub mod CountingHops
 pub mod WritingHops
+pub mod PackAgreed
+pub mod PackThenLookup
+pub mod WordMaking
+pub mod WordsWriting
+pub mod Settled

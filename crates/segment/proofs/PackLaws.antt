@@ -14,7 +14,7 @@ use borrow.Author.Tests.{lt-ltb, le-ltb}
 use Rattle.ground.specs.Numbers.{outcome, done, illFormed, noRoom, notItsRuns}
 use Rattle.ground.specs.Slots.{written}
 use Rattle.ground.proofs.Truth.{cond-false}
-use Rattle.ground.proofs.Numbers.{outcome-here, outcome-later, outcome-last}
+use Rattle.ground.proofs.Numbers.{outcome-here, outcome-later, outcome-last, fault-front, accepted-fault, accepted-is}
 use Rattle.runs.specs.Pair.{Pair, listOf, pairIll, itsRuns, pairChecks, pairCheck}
 use Rattle.runs.proofs.TableOutcomes.{pair-agrees, pair-is-ill, pair-is-other}
 use Rattle.segment.specs.declared.Walk.{Walk}
@@ -22,7 +22,7 @@ use Rattle.segment.specs.declared.Packing.{Packing}
 use Rattle.segment.specs.declared.Packing.the-variants.{Done, IllFormed, NotItsRuns, NoRoom}
 use Rattle.segment.specs.Packed.{width, blockHop, wordsFor, codeWords, basesFrom, keptHops, wordsOf, basesOf, packedHopsOf}
 use Rattle.segment.specs.Pack.{PackLent, PackOutcome, packLent, packRefused, packChecks, pack, packGave}
-use Rattle.segment.specs.Inside.Blocks.{Runs, begun, hopIn, noHop, hopBefore, Before, Grid, roomChecks, packBlocks}
+use Rattle.segment.specs.Inside.Blocks.{Runs, begun, hopIn, noHop, hopBefore, Before, Grid, roomChecks, blocksDone, packBlocks}
 use Rattle.segment.proofs.CodeWords.{length-code-words, length-code-bases}
 use Rattle.segment.proofs.Walking.{some-begun}
 
@@ -81,6 +81,27 @@ module _ (w : ℕ) (hop : ℕ → ℕ) (l : PackLent) where
           (outcome-later noRoom _ _ _ words-fit ∙ outcome-later noRoom _ _ _ bases-fit
           ∙ outcome-last _ 12 _ _ ∙ cond-false _ _ (le-ltb _ _ (rw kept at fits)))
 
+-- the same as code has it, which knows the number of blocks and their size by names of their own
+module _ (starts rhops : List ℕ) (base w : ℕ) {size n : ℕ} (l : PackLent) (size-is : size ≡ 2 ^ (16 - w)) (n-is : n ≡ 2 ^ w) where
+  pub kept-short : wordsFor n ≤ length (l .words) → wordsFor n ≤ length (l .bases)
+      → length (l .hops) < length (keptHops (hopIn starts rhops base size) n)
+      → packRefused l noRoom ≡ packBlocks w (hopIn starts rhops base (2 ^ (16 - w))) l
+  kept-short a b short = hops-short w _ l (rw n-is at a) (rw n-is at b) (rw (size-is, n-is) at short)
+
+  pub blocks-written : {count kept : ℕ} {words′ bases′ hops′ : List ℕ} → wordsFor n ≤ length (l .words) → wordsFor n ≤ length (l .bases)
+      → count ≡ wordsFor n → kept ≡ length (keptHops (hopIn starts rhops base size) n) → kept ≤ length (l .hops)
+      → words′ ≡ written (codeWords (hopIn starts rhops base size) n) (l .words)
+      → bases′ ≡ written (basesFrom 0 (codeWords (hopIn starts rhops base size) n)) (l .bases)
+      → hops′ ≡ written (keptHops (hopIn starts rhops base size) n) (l .hops)
+      → packGave (Done w count kept) words′ bases′ hops′ ≡ packBlocks w (hopIn starts rhops base (2 ^ (16 - w))) l
+  blocks-written a b c d e f g h =
+      all-written w _ l (rw n-is at a) (rw n-is at b) (rw n-is at c) (rw (size-is, n-is) at d) e (rw (size-is, n-is) at f)
+      (rw (size-is, n-is) at g) (rw (size-is, n-is) at h)
+
+pub same-width : (starts rhops : List ℕ) (base : ℕ) {w w′ : ℕ} (l : PackLent) → w ≡ w′
+    → packBlocks w (hopIn starts rhops base (2 ^ (16 - w))) l ≡ packBlocks w′ (hopIn starts rhops base (2 ^ (16 - w′))) l
+same-width starts rhops base l e = rw e
+
 module _ (q : ℕ) (p : Pair) (l : PackLent) where
   pub pack-ill : pairCheck p ≡ illFormed → packRefused l illFormed ≡ pack q p l
   unfolding pack packChecks pairChecks
@@ -97,3 +118,13 @@ module _ (q : ℕ) (p : Pair) (l : PackLent) where
   pack-agreed e =
       let both = pair-agrees p e in
       outcome-later illFormed _ _ _ (both .0) ∙ outcome-later notItsRuns _ _ _ (ap not (both .1))
+
+  -- an accepted packing's pair agrees
+  pub pack-accepted : pack q p l .number ≡ done → pairCheck p ≡ done
+  unfolding pack packChecks pairCheck
+  pack-accepted e = fault-front (pairChecks p) _ (accepted-fault (λ (o : PackOutcome). o .number) _ (packRefused l) _ (λ n. refl) e)
+
+-- what an accepted packing of blocks leaves
+pub blocks-left : (w : ℕ) (hop : ℕ → ℕ) (l : PackLent) → packBlocks w hop l .number ≡ done → packBlocks w hop l ≡ blocksDone w hop l
+unfolding packBlocks
+blocks-left w hop l e = accepted-is (λ (o : PackOutcome). o .number) (roomChecks w hop l) (packRefused l) (blocksDone w hop l) (λ n. refl) e

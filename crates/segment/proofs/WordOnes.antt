@@ -25,7 +25,7 @@ module _ (p : ℕ → Bool) where
       go false l = omega arith
 
   -- the first j bits, and the m after them
-  word-cut : (j m t : ℕ) → wordFrom p (j + m) t ≡ wordFrom p j t * 2 ^ m + wordFrom p m (t + j)
+  pub word-cut : (j m t : ℕ) → wordFrom p (j + m) t ≡ wordFrom p j t * 2 ^ m + wordFrom p m (t + j)
   unfolding wordFrom
   word-cut zero m t = rw (zero-add, add-zero) (omega arith)
   word-cut (suc j) m t = rw (suc-add, pow-add, word-cut j m (suc t), add-mul, mul-assoc, add-suc, suc-add, add-assoc)

@@ -1,16 +1,17 @@
-// The packed form of one segment of the address space, and lookup in it. Packing stands on the pair check of `runs` and reads the run table;
-// which segments are packed, and where they are kept, is the caller's business.
+// The packed form of one segment of the address space, and lookup in it. Packing stands on the pair check of `runs` and reads the run
+// table; which segments are packed, and where they are kept, is the caller's business.
 ghost use mathlib.Core.Path.{_≡_};
-ghost use mathlib.Core.Bool.{true};
+ghost use mathlib.Core.Bool.{true, not};
 ghost use Prim.Native.Nat.{_+_, _-_, _*_, _^_, _≤_, _<_};
 ghost use lib.ListN.{length};
+ghost use lib.Dec.{eqb};
 ghost use lib.Count.{ones};
 ghost use Rattle.ground.specs.Column.{ascends};
 ghost use Rattle.ground.specs.Slots.{written};
 ghost use Rattle.routes.specs.Row.{listLent};
 ghost use Rattle.runs.specs.Table.{runsLent};
 ghost use Rattle.runs.specs.Pair.{pair};
-ghost use Rattle.segment.specs.Packed.{wordsFor, codeWords, basesFrom, keptHops};
+ghost use Rattle.segment.specs.Packed.{bitValue, wordsFor, codeWords, basesFrom, keptHops};
 ghost use Rattle.segment.specs.Pack.{packLent, packGave, pack};
 ghost use Rattle.segment.specs.Lookup.{blockOf, onesTo, segmentLent, packedGave, packedLookup};
 ghost use Rattle.segment.specs.Inside.Blocks.{Runs, begun, hopIn, Ahead, Stands, Before, Grid, WordMade, packBlocks};
@@ -89,10 +90,10 @@ fn hop_of(hop: u32) -> u16
 }
 
 // The ones of a whole word.
-fn ones_of(word: u16) -> u16
+fn ones_of(word: u16) -> u32
     ensures { λ r. ⌜ (r ≡ ones word) × (r ≤ 16) ⌝ }
 {
-    u16::count_ones(word) as u16
+    u16::count_ones(word)
 }
 
 // How many runs begin at an address or before it, of which some are known.
@@ -122,40 +123,45 @@ fn walk_to(starts: &[u32], rhops: &[u16], s: Walk, at: u64) -> Walk
     }
 }
 
+// The bit of a block, by its hop and that of the block before.
+fn bit_of(hop: u32, last: u32) -> u16
+    ensures { λ r. ⌜ (r ≡ bitValue (not (eqb hop last))) × (r ≤ 1) ⌝ }
+{
+    if hop != last { 1 } else { 0 }
+}
+
 // A code word, and where the walk stands after its blocks.
 struct Word {
     word: u16,
     walk: Walk,
 }
 
-// The code word of 16 blocks from `first` on: the first one's bit is highest, a bit is 1 where the hop isn't that of the block before, and a
-// bit without a block is 0.
+// The code word of 16 blocks from `first` on: the first one's bit is highest, a bit is 1 where the hop isn't that of the block before, and
+// a bit without a block is 0.
 fn word_at(starts: &[u32], rhops: &[u16], s: Walk, base: u64, size: u64, n: u64, first: u64) -> Word
     requires { ⌜ Runs (now starts) (now rhops) × Grid base size n × Before (now starts) (now rhops) base size first s × (first < n) ⌝ }
     ensures { λ r. ⌜ WordMade (now (starts .entry)) (now (rhops .entry)) base size n first r ⌝ }
 {
     let mut word: u16 = 0;
     let mut walk = s;
-    let mut block = first;
     let mut at = base + first * size;
-    let mut left = 16;
-    while 0 < left {
-        word *= 2;
-        if block < n {
+    let mut seen = 0;
+    while seen < 16 {
+        if first + seen < n {
             let next = walk_to(starts, rhops, walk, at);
-            if next.hop != walk.hop {
-                word += 1;
-            }
+            word = word * 2 + bit_of(next.hop, walk.hop);
             walk = next;
             at += size;
+        } else {
+            word *= 2;
         }
-        block += 1;
-        left -= 1;
+        seen += 1;
     }
     Word { word, walk }
 }
 
-// The code words of all blocks and their bases, from the front of two slices.
+// The code words of all blocks and their bases, from the front of two slices. All 65,536 bits may be 1, so the ones are counted in 32 bits,
+// though each base fits 16.
 fn write_words(
     starts: &[u32],
     rhops: &[u16],
@@ -179,13 +185,12 @@ fn write_words(
     let mut walk = s;
     let mut first = 0;
     let mut j = 0;
-    let mut ones = 0;
+    let mut ones: u32 = 0;
     while first < n {
         let made = word_at(starts, rhops, walk, base, size, n, first);
-        let word = made.word;
-        words[j] = word;
-        bases[j] = ones;
-        ones += ones_of(word);
+        words[j] = made.word;
+        bases[j] = ones as u16;
+        ones += ones_of(made.word);
         walk = made.walk;
         j += 1;
         first += 16;
