@@ -1,5 +1,5 @@
-/* Packed lookup at random addresses and at local ones, each within 32,768 of the one before, over all segments of a list whose prefixes nest as
-   in real tables; and packing them, beside C by blocks as ours goes and beside C by runs. Then one segment of 65,536 blocks. */
+/* Packed lookup at random addresses and at local ones, each within 32,768 of the one before, over all segments of a list whose prefixes
+   nest as in real tables; and packing them, beside C by blocks as ours goes and beside C by runs. Then one segment of 65,536 blocks. */
 #include "in_c.h"
 #include "measure.h"
 #include "nested.h"

@@ -1,5 +1,5 @@
-/* All 65,536 segments of a list, packed into one arena with an index by segment, for the benches that look up there. A segment's packing needs
-   only the rows that lie in it or hold it, so it is packed from those: the check of a pair goes through all that it is handed. */
+/* All 65,536 segments of a list, packed into one arena with an index by segment, for the benches that look up there. A segment's packing
+   needs only the rows that lie in it or hold it, so it is packed from those: the check of a pair goes through all that it is handed. */
 #ifndef PACKING_H
 #define PACKING_H
 
@@ -94,8 +94,8 @@ static inline struct whelk_packed pack_part(packing *pack, size_t q, uint16_t *w
                                             size_t bases_length, uint16_t *packed_hops, size_t packed_hops_length)
 {
     size_t row = parts[q].rows, run = parts[q].runs, count = parts[q + 1].rows - row, runs = parts[q + 1].runs - run;
-    return pack((uint16_t)q, count, part_keys + row, count, part_hops + row, count, runs, part_starts + run, runs, part_run_hops + run, runs,
-                words, words_length, bases, bases_length, packed_hops, packed_hops_length);
+    return pack((uint16_t)q, count, part_keys + row, count, part_hops + row, count, runs, part_starts + run, runs, part_run_hops + run,
+                runs, words, words_length, bases, bases_length, packed_hops, packed_hops_length);
 }
 
 /* The index, and an arena as long as all packed segments together. */

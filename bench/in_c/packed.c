@@ -1,5 +1,5 @@
-/* The same packed lookup and packing as a C programmer writes them. Packing is there twice: by blocks, one after the other as ours goes, and by
-   the runs of the segment alone, each of which sets one bit. */
+/* The same packed lookup and packing as a C programmer writes them. Packing is there twice: by blocks, one after the other as ours goes, and
+   by the runs of the segment alone, each of which sets one bit. */
 #include "../in_c.h"
 #include "list.h"
 

@@ -1,7 +1,7 @@
-/* Our build, run lookup and packed lookup beside what a user would install instead: DPDK's rte_lpm and rte_fib (DIR24_8), started without huge
-   pages. A next hop of rte_fib's has 4 bytes here: in 2 it couldn't be over 32,767. Addresses are the same in every round: random, local as in
-   run_lookup.c, or listed, each in some row, since in a short list few others match. All segments are packed before times are taken; packed.c
-   has the time of that.
+/* Our build, run lookup and packed lookup beside what a user would install instead: DPDK's rte_lpm and rte_fib (DIR24_8), started without
+   huge pages. A next hop of rte_fib's has 4 bytes here: in 2 it couldn't be over 32,767. Addresses are the same in every round: random,
+   local as in run_lookup.c, or listed, each in some row, since in a short list few others match. All segments are packed before times are
+   taken; packed.c has the time of that.
    It stops at 100,000 rows: rte_lpm_add goes through all rows of the same length, and a build from a million rows took it 75 seconds. */
 #include <rte_eal.h>
 #include <rte_fib.h>
@@ -172,8 +172,8 @@ int main(void)
         return 2;
     }
     printf("%s without huge pages. Its empty tables are made before the time of a build. Memory is 6 bytes a run for ours, without the\n"
-           "list; for packed, all segments and 12 bytes for each of them; and for DPDK what its heap gives out for a table, its own copy of the\n"
-           "list included.\n", rte_version());
+           "list; for packed, all segments and 12 bytes more for each; and for DPDK what its heap gives out for a table, its own copy of\n"
+           "the list included.\n", rte_version());
     printf("work                        size  inputs   ");
     for (s = 0; s < SIDES; s++) printf(" %13s", names[s]);
     printf("\n");

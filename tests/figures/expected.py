@@ -89,8 +89,8 @@ BUILDS = [
 A_21 = LIST_A + ["200.27.240.0/21 2"]
 ENDS = ["10.0.0.0/8 7", "10.64.0.1/32 5", "10.64.255.255/32 9"]
 
-# Each packed segment: its name, the rows of its list, the segment, an address in it, how many words, as many bases, and hops are lent, and what
-# document 01 or the name says of it: the width, and how many words and hops there are.
+# Each packed segment: its name, the rows of its list, the segment, an address in it, how many words, as many bases, and hops are lent, and
+# what document 01 or the name says of it: the width, and how many words and hops there are.
 PACKINGS = [
     ("51227 of A with 200.27.240.0/21 hop 2", A_21, 51_227, "200.27.112.170", 3, 7, (5, 2, 6)),
     ("the same in one hop less than it takes", A_21, 51_227, "200.27.112.170", 2, 5, (5, 2, 6)),

@@ -1,5 +1,5 @@
-/* Packing and packed lookup against section 9 of docs/RULES.md, written here another way: a segment's answers are painted, row after row, and
-   its bits are set one by one. Every address of a packed segment is looked up. Damaged segments are held to rules 9.10 to 9.13. Inputs come
+/* Packing and packed lookup against section 9 of docs/RULES.md, written here another way: a segment's answers are painted, row after row,
+   and its bits are set one by one. Every address of a packed segment is looked up. Damaged segments are held to rules 9.10 to 9.13. Inputs come
    from a fixed seed. What is counted is the groups below. */
 #include <stdlib.h>
 #include <string.h>

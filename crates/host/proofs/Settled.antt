@@ -1,5 +1,5 @@
--- What C gets from an import, from a build and from a packing is settled: two outcomes that keep the promise for one input are the same, in what is
--- returned and in each lent slice. The lookups promise an equation.
+-- What C gets from an import, from a build and from a packing is settled: two outcomes that keep the promise for one input are the same,
+-- in what is returned and in each lent slice. The lookups promise an equation.
 -- Assumes nothing.
 use mathlib.Core.Path.{_≡_, sym, ap, _∙_}
 use mathlib.Core.List.{List}
