@@ -27,7 +27,7 @@ use Rattle.feed.specs.Rows.{rowsIn}
 use Rattle.feed.specs.RowNumber.{rowTaken, rowShape, rowRange, rowHostBits, rowRepeat, rowNoRoom}
 use Rattle.feed.specs.RowNumber.{reasons, countsOf, noCounts, rowsWith, rowsNamed}
 use Rattle.feed.specs.Import.{rowNumbers, importedList, ImportLent, importRefused, importAccepted, import, endNumber, importGave}
-use Rattle.feed.proofs.Filling.{length-written}
+use Rattle.ground.proofs.Slots.{length-written}
 use Rattle.feed.proofs.Importing.{rows-taken-refused, numbers-of-rows, imported-good, imported-length, imported-in-room}
 use Rattle.feed.proofs.Importing.{TakenFrom, imported-is-taken, taken-is-imported}
 use Rattle.feed.proofs.Outcome.{import-short, done-is-accepted, refused-is-short}

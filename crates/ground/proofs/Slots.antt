@@ -7,8 +7,8 @@ use mathlib.Core.List.{List, [], _∷_, _++_, append-assoc}
 use Prim.Native.Nat.{ℕ, _+_, _-_, _≤_, _<_}
 use native.Mathlib.Numerals.{add-one}
 use native.Mathlib.Omega.{arith}
-use lib.ListN.{length, take, drop, set, length-append, length-drop}
-use lib.Seq.{take-at, drop-append-add, drop-drop, drop-cons, set-at}
+use lib.ListN.{length, getD, take, drop, set, length-take, length-append, length-drop}
+use lib.Seq.{take-at, getD-take, drop-append-add, drop-drop, drop-cons, set-at}
 use lib.Dec.{eqb}
 use borrow.Author.Tests.{eqb-true, eq-eqb}
 use Rattle.ground.proofs.Truth.{and-left, and-right, and-both, never-both}
@@ -49,3 +49,10 @@ pub same-self : (xs : List ℕ) → same xs xs ≡ true
 unfolding same
 same-self [] = refl
 same-self (x ∷ xs) = and-both (eq-eqb x x refl) (same-self xs)
+
+-- a list whose first slots are another one's is at least as long, and has its numbers there
+pub first-long : (n : ℕ) (xs ys : List ℕ) → take n xs ≡ ys → n ≡ length ys → n ≤ length xs
+first-long n xs ys e l = omega (arith, ap length e, length-take n xs)
+
+pub first-slot : (n : ℕ) (xs ys : List ℕ) → take n xs ≡ ys → (i : ℕ) → i < n → getD xs i 0 ≡ getD ys i 0
+first-slot n xs ys e i l = sym (getD-take n xs i 0 l) ∙ rw e

@@ -1,12 +1,10 @@
 -- What a pair is of which the pair check says done: the list is well-formed, so the keys of its rows are the first of the slice, prefixes and
 -- ascending; and the first slots of the starts and hops are the list's run table. Packing and edits begin with it.
 -- Assumes nothing.
-use mathlib.Core.Path.{_≡_, sym, _∙_}
+use mathlib.Core.Path.{_≡_}
 use mathlib.Core.Bool.{true, not}
 use Prim.Native.Nat.{_≤_}
-use native.Mathlib.Omega.{arith}
 use lib.ListN.{take}
-use lib.Dec.{ltb}
 use borrow.Author.Tests.{ltb-false}
 use Rattle.ground.specs.Column.{ascends}
 use Rattle.ground.specs.Numbers.{done}
@@ -14,15 +12,14 @@ use Rattle.ground.specs.Slots.{same}
 use Rattle.ground.proofs.Slots.{same-is}
 use Rattle.ground.proofs.Truth.{and-left, and-right, or-neither, not-false}
 use Rattle.routes.specs.Row.{keysOf}
-use Rattle.routes.specs.WellFormed.{prefixes, hopsGiven, ascending, halfRows, goodRows, wellFormed}
+use Rattle.routes.specs.WellFormed.{prefixes, ascending, halfRows, wellFormed}
 use Rattle.routes.specs.Plain.{plain}
 use Rattle.routes.proofs.Columns.{keys-of-rows}
 use Rattle.runs.specs.Table.{RunTable, runStarts, runHops}
 use Rattle.runs.specs.Build.{runRoom}
 use Rattle.runs.specs.Pair.{Pair, listOf, pairIll, itsRuns, pairCheck}
-use Rattle.sweep.specs.Sweep.{Sorted}
 use Rattle.runs.proofs.Table.{table-of}
-use Rattle.runs.proofs.WholeList.{in-keys, in-hops, slices-rows, slices-sorted, in-starts, in-rhops}
+use Rattle.runs.proofs.WholeList.{in-keys, in-hops, slices-rows, slices-sorted}
 use Rattle.runs.proofs.TableOutcomes.{pair-agrees}
 
 module _ (p : Pair) (agreed : pairCheck p ≡ done) where

@@ -3,7 +3,7 @@
 -- Assumes nothing.
 use mathlib.Core.Path.{_≡_, sym, ap, _∙_}
 use mathlib.Core.Logic.{⊎-elim}
-use mathlib.Core.Bool.{true, false}
+use mathlib.Core.Bool.{true}
 use mathlib.Core.List.{List}
 use Prim.Native.Nat.{ℕ, _<_}
 use native.Mathlib.Omega.{arith}
@@ -21,9 +21,8 @@ use Rattle.routes.specs.declared.Looked.{Looked}
 use Rattle.runs.specs.declared.Built.the-variants.{Runs}
 use Rattle.runs.specs.declared.Probed.{Probed}
 use Rattle.runs.specs.Table.{runsLent, runStarts, runHops, startsOf, runHopsOf}
-use Rattle.runs.specs.Build.{SlotsLent, BuildOutcome, built, buildGave, build, runRoom}
+use Rattle.runs.specs.Build.{SlotsLent, BuildOutcome, built, buildGave, build}
 use Rattle.runs.specs.Lookup.{RunLookupOutcome, runLookupGave, runLookup}
-use Rattle.runs.specs.Inside.Rows.{buildRows}
 use Rattle.runs.proofs.Lookups.{run-lookup-plain}
 use Rattle.runs.proofs.TableOutcomes.{build-ill, build-well, rows-done}
 

@@ -1,12 +1,12 @@
 -- Rule 7.6: on the run table of a list, run lookup gives the plain answer at every address: in the first slots of lent slices, which may be
 -- longer, and in its run bytes. Halving sees the first slots alone, and they are the run table, whose laws say that the hop is the answer.
 -- Assumes nothing.
-use mathlib.Core.Path.{_≡_, refl, sym, ap, _∙_}
+use mathlib.Core.Path.{_≡_, refl, sym, _∙_}
 use mathlib.Core.List.{List}
-use Prim.Native.Nat.{ℕ, _≤_, _<_}
+use Prim.Native.Nat.{ℕ, _<_}
 use native.Mathlib.Omega.{arith}
-use lib.ListN.{length, getD, take, length-take}
-use lib.Seq.{getD-take}
+use lib.ListN.{length, getD, take}
+use Rattle.ground.proofs.Slots.{first-long, first-slot}
 use Rattle.ground.specs.Numbers.{firstFault, done}
 use Rattle.halving.proofs.Halving.{halving-agrees}
 use Rattle.cidr.specs.Prefix.{addresses}
@@ -19,13 +19,6 @@ use Rattle.runs.specs.Lookup.{inSlices, runChecks, runLookup, bytesLooku
 use Rattle.runs.proofs.Table.{table-of}
 use Rattle.runs.proofs.Found.{place-found, hop-found, bytes-answer}
 use Rattle.runs.proofs.LookupOutcomes.{runs-accepted, accepted}
-
--- a list whose first slots are another one's is at least as long, and has its numbers there
-first-long : (n : ℕ) (xs ys : List ℕ) → take n xs ≡ ys → n ≡ length ys → n ≤ length xs
-first-long n xs ys e l = omega (arith, ap length e, length-take n xs)
-
-first-slot : (n : ℕ) (xs ys : List ℕ) → take n xs ≡ ys → (i : ℕ) → i < n → getD xs i 0 ≡ getD ys i 0
-first-slot n xs ys e i l = sym (getD-take n xs i 0 l) ∙ rw e
 
 module _ {f : ℕ → ℕ} {runs ans : List ℕ} (t : RunTable f runs ans) (starts hops : List ℕ) (s : take (length runs) starts ≡ runs)
     (h : take (length runs) hops ≡ ans) where

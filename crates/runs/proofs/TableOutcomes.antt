@@ -13,13 +13,11 @@ use Rattle.ground.specs.Slots.{written}
 use Rattle.ground.proofs.Numbers.{outcome-later, outcome-last}
 use Rattle.routes.specs.Row.{Row, ListLent, rowsLent}
 use Rattle.routes.specs.WellFormed.{wellFormed}
-use Rattle.runs.specs.declared.Built.{Built}
 use Rattle.runs.specs.declared.Built.the-variants as B
-use Rattle.runs.specs.declared.Paired.{Paired}
 use Rattle.runs.specs.declared.Paired.the-variants as P
 use Rattle.runs.specs.Table.{runStarts, runHops}
-use Rattle.runs.specs.Build.{SlotsLent, BuildOutcome, built, buildGave, buildChecks, build, runRoom}
-use Rattle.runs.specs.Pair.{Pair, pairIll, itsRuns, pairChecks, pairCheck, pairGave}
+use Rattle.runs.specs.Build.{SlotsLent, BuildOutcome, built, buildChecks, build, runRoom}
+use Rattle.runs.specs.Pair.{Pair, pairIll, itsRuns, pairChecks, pairCheck}
 use Rattle.runs.specs.Inside.Rows.{buildRows}
 use Rattle.sweep.specs.Sweep.{allRows, answer, areRuns}
 use Rattle.runs.proofs.WholeList.{slices-rows, slices-sorted, whole-starts, whole-hops}

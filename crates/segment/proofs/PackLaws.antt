@@ -2,27 +2,26 @@
 -- agrees, what is left to do is packing blocks (`pack-agreed`).
 -- Assumes nothing.
 use mathlib.Core.Path.{_≡_, refl, sym, ap, _∙_}
-use mathlib.Core.Bool.{Bool, true, false, not, cond}
+use mathlib.Core.Bool.{false, not}
 use mathlib.Core.List.{List}
 use Prim.Native.Nat.{ℕ, _+_, _-_, _*_, _^_, _≤_, _<_}
 use native.Mathlib.Nat.{pow-le-pow-right}
 use native.Mathlib.Omega.{arith}
 use lib.ListN.{length}
 use lib.Pow.{pow-add}
-use lib.Dec.{ltb, eqb}
+use lib.Dec.{ltb}
 use borrow.Author.Tests.{lt-ltb, le-ltb}
-use Rattle.ground.specs.Numbers.{outcome, done, illFormed, noRoom, notItsRuns}
+use Rattle.ground.specs.Numbers.{done, illFormed, noRoom, notItsRuns}
 use Rattle.ground.specs.Slots.{written}
 use Rattle.ground.proofs.Truth.{cond-false}
 use Rattle.ground.proofs.Numbers.{outcome-here, outcome-later, outcome-last, fault-front, accepted-fault, accepted-is}
-use Rattle.runs.specs.Pair.{Pair, listOf, pairIll, itsRuns, pairChecks, pairCheck}
+use Rattle.runs.specs.Pair.{Pair, listOf, pairChecks, pairCheck}
 use Rattle.runs.proofs.TableOutcomes.{pair-agrees, pair-is-ill, pair-is-other}
 use Rattle.segment.specs.declared.Walk.{Walk}
-use Rattle.segment.specs.declared.Packing.{Packing}
-use Rattle.segment.specs.declared.Packing.the-variants.{Done, IllFormed, NotItsRuns, NoRoom}
+use Rattle.segment.specs.declared.Packing.the-variants.{Done}
 use Rattle.segment.specs.Packed.{width, blockHop, wordsFor, codeWords, basesFrom, keptHops, wordsOf, basesOf, packedHopsOf}
-use Rattle.segment.specs.Pack.{PackLent, PackOutcome, packLent, packRefused, packChecks, pack, packGave}
-use Rattle.segment.specs.Inside.Blocks.{Runs, begun, hopIn, noHop, hopBefore, Before, Grid, roomChecks, blocksDone, packBlocks}
+use Rattle.segment.specs.Pack.{PackLent, PackOutcome, packRefused, packChecks, pack, packGave}
+use Rattle.segment.specs.Inside.Blocks.{Runs, begun, hopIn, noHop, hopBefore, Before, roomChecks, blocksDone, packBlocks}
 use Rattle.segment.proofs.CodeWords.{length-code-words, length-code-bases}
 use Rattle.segment.proofs.Walking.{some-begun}
 

@@ -2,12 +2,11 @@
 -- and a base. One more than its place is how many of the bits up to its own are 1: at least bit 0 is, and the hop there is the block's.
 -- Assumes nothing.
 use mathlib.Core.Path.{_≡_, refl, sym, ap, _∙_}
-use mathlib.Core.List.{List}
 use Prim.Native.Nat.{ℕ, _+_, _-_, _/_, _^_, _≤_, _<_}
 use native.Mathlib.Omega.{arith}
-use lib.ListN.{length, getD, take, length-take}
-use lib.Seq.{getD-take}
+use lib.ListN.{length, getD, take}
 use lib.Pow.{shr-lt}
+use Rattle.ground.proofs.Slots.{first-long, first-slot}
 use Rattle.ground.specs.Numbers.{done}
 use Rattle.ground.specs.Stretch.{counted}
 use Rattle.routes.specs.Lookup.{lookedUp}
@@ -16,13 +15,6 @@ use Rattle.segment.specs.Lookup.{SegmentLent, blockOf, onesTo, packedLoo
 use Rattle.segment.proofs.PackedOutcome.{hop-there}
 use Rattle.segment.proofs.CodeWords.{length-code-words, length-code-bases, word-there, ones-through}
 use Rattle.segment.proofs.KeptHops.{length-kept-hops, some-through, through-at-most, hop-through}
-
--- a list whose first slots are another one's is at least as long, and has its numbers there
-first-long : (n : ℕ) (xs ys : List ℕ) → take n xs ≡ ys → n ≡ length ys → n ≤ length xs
-first-long n xs ys e l = omega (arith, ap length e, length-take n xs)
-
-first-slot : (n : ℕ) (xs ys : List ℕ) → take n xs ≡ ys → (i : ℕ) → i < n → getD xs i 0 ≡ getD ys i 0
-first-slot n xs ys e i l = sym (getD-take n xs i 0 l) ∙ rw e
 
 -- an address is in one of the blocks
 pub block-below : (w a : ℕ) → w ≤ 16 → blockOf w a < 2 ^ w

@@ -13,7 +13,7 @@ use Rattle.ground.specs.Stretch.{turnsFrom}
 use Rattle.ground.proofs.Lower.{lower-le, lower-within, lower-mono}
 use Rattle.segment.specs.declared.Walk.{Walk}
 use Rattle.segment.specs.Packed.{bit}
-use Rattle.segment.specs.Inside.Blocks.{Runs, begun, hopIn, noHop, hopBefore, Ahead, Stands, Before}
+use Rattle.segment.specs.Inside.Blocks.{Runs, begun, hopIn, noHop, hopBefore, Stands, Before}
 
 module _ {starts rhops : List ℕ} (t : Runs starts rhops) where
   pub some-begun : (a : ℕ) → 0 < begun starts a

@@ -4,14 +4,13 @@
 use mathlib.Core.Path.{_≡_, sym, ap, _∙_}
 use mathlib.Core.Bool.{true}
 use mathlib.Core.List.{List}
-use Prim.Native.Nat.{ℕ, _+_, _-_, _*_, _%_, _≤_, _<_, max, zero-le}
+use Prim.Native.Nat.{ℕ, _+_, _-_, _*_, _≤_, _<_, max, zero-le}
 use native.Mathlib.Omega.{arith}
 use lib.ListN.{length, getD, take}
 use lib.Seq.{take-all}
 use Rattle.ground.specs.Column.{ascends, lower}
-use Rattle.ground.proofs.Lower.{lower-le}
 use Rattle.cidr.specs.Prefix.{lengthOf}
-use Rattle.segment.specs.Inside.Width.{widthBy, widthIn}
+use Rattle.segment.specs.Inside.Width.{widthIn}
 use Rattle.segment.proofs.WidthOf.{width-more, by-inside, width-before, width-behind, below-lower, from-lower}
 
 pub record Widening (keys : List ℕ) (q first i width : ℕ) : Type 0 where

@@ -243,7 +243,8 @@ fn write_hops(starts: &[u32], rhops: &[u16], s: Walk, base: u64, size: u64, n: u
     }
 }
 
-// The width of a segment, from the keys of a list: they ascend, so those of the segment stand side by side, and the first is found by halving.
+// The width of a segment, from the keys of a list: they ascend, so those of the segment stand side by side, and the first is found by
+// halving.
 fn width_of(keys: &[u64], q: u64) -> u64
     requires { ⌜ (ascends (now keys) ≡ true) × (q < 65536) ⌝ }
     ensures { λ r. ⌜ r ≡ widthIn q (now (keys .entry)) ⌝ }

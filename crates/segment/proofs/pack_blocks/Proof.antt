@@ -30,7 +30,8 @@ abbrev at-count : tie.After-write-words → tie.After-count-hops
 at-count c = c .before .before .before .before
 
 abbrev at-words : tie.After-write-hops-arg → tie.After-write-words
-at-words c = let known = c .before .before in known .before .before .before
+at-words c = let known = c .before .before in
+    known .before .before .before
 
 -- how many blocks and words there are, and how large a block is
 count-is : (c : tie.After-words-for) → c .words-for .result ≡ wordsFor (2 ^ start c .args .width)

@@ -5,7 +5,7 @@ use Prim.Native.Nat.{_+_, _/_}
 use native.Mathlib.Omega.{arith}
 use lib.ListN.{getD}
 use denote.Ref.{now}
-use Rattle.segment.specs.Lookup.{blockOf, onesTo}
+use Rattle.segment.specs.Lookup.{onesTo}
 use Rattle.segment.proofs.PackedOutcome.{few-ones, too-wide, no-word, no-base, no-place, past-hops, hop-there}
 use borrow.Author.Needs.{needs}
 use Rattle.segment.proofs.packed_lookup.Statement.{statement}
@@ -17,6 +17,19 @@ block c = c .before .before
 
 abbrev at-past : tie.After-past-place → tie.After-block-of
 at-past c = block (c .before .before .before .before)
+
+abbrev at-start : tie.After-block-of → tie.Start
+at-start c =
+    let slices = c .before .before in
+    slices .before .before .before
+
+-- one more than the place, from the base and the ones
+past : (c : tie.After-past-place)
+    → let w = at-past c in
+    let a = at-start w .args in
+    c .past-place .result
+    ≡ getD (now (a .bases)) (w .block-of .result / 16) 0 + onesTo (getD (now (a .words)) (w .block-of .result / 16) 0) (w .block-of .result)
+past c = c .past-place .ensures ∙ rw (c .before .ones-to .ensures)
 
 returns : tie.Need-returns
 returns c = too-wide _ _ (omega arith)
@@ -46,13 +59,18 @@ ones-to-requires : tie.Need-ones-to-requires
 ones-to-requires c κs = search needs
 
 past-place-requires : tie.Need-past-place-requires
-past-place-requires c κs = rw (c .ones-to .ensures) (few-ones _ _ (omega (arith, c .before .shared-slice-known5 .given (block (c .before .before .before) .block-of .result / 16))))
+past-place-requires c κs =
+    let at = block (c .before .before .before) .block-of .result / 16 in
+    rw (c .ones-to .ensures) (few-ones _ _ (omega (arith, c .before .shared-slice-known5 .given at)))
 
 returns-4 : tie.Need-returns-4
-returns-4 c = no-place _ _ (omega arith) _ (at-past (c .before) .block-of .ensures) (omega arith) (omega arith) _ (c .before .past-place .ensures ∙ rw (c .before .before .ones-to .ensures)) (omega arith)
+returns-4 c =
+    no-place _ _ (omega arith) _ (at-past (c .before) .block-of .ensures) (omega arith) (omega arith) _ (past (c .before)) (omega arith)
 
 returns-5 : tie.Need-returns-5
-returns-5 c = past-hops _ _ (omega arith) _ (at-past (c .before .before) .block-of .ensures) (omega arith) (omega arith) _ (c .before .before .past-place .ensures ∙ rw (c .before .before .before .ones-to .ensures)) (omega arith)
+returns-5 c =
+    let p = c .before .before in
+    past-hops _ _ (omega arith) _ (at-past p .block-of .ensures) (omega arith) (omega arith) _ (past p) (omega arith)
 
 sub-t14 : tie.Need-sub-t14
 sub-t14 c = search needs
@@ -64,7 +82,9 @@ shared-slice-read-t16 : tie.Need-shared-slice-read-t16
 shared-slice-read-t16 c = search needs
 
 returns-6 : tie.Need-returns-6
-returns-6 c = hop-there _ _ (omega arith) _ (at-past (c .before .before .before) .block-of .ensures) (omega arith) (omega arith) _ (c .before .before .before .past-place .ensures ∙ rw (c .before .before .before .before .ones-to .ensures)) (omega arith) (omega arith)
+returns-6 c =
+    let p = c .before .before .before in
+    hop-there _ _ (omega arith) _ (at-past p .block-of .ensures) (omega arith) (omega arith) _ (past p) (omega arith) (omega arith)
 
 pub packed-lookup-spec : {M : Type 1} → statement M
 packed-lookup-spec =
