@@ -16,10 +16,10 @@ extern "C" {
 #endif
 
 /* What became of a call. A call with another number than 0 is refused: it writes nothing, and whatever else it returns is 0. The calls below
-   return 0, 11, 12 or 13; the other numbers are for calls to come. */
+   return 0, 11 to 14 or 19; the other numbers are for calls to come. */
 enum whelk_number {
     WHELK_DONE = 0,           /* the call is done */
-    WHELK_ILL_FORMED = 11,    /* the list is ill-formed; in a run lookup, there are no runs or more than were lent */
+    WHELK_ILL_FORMED = 11,    /* the list is ill-formed, or there are more runs than were lent; in a run lookup, no runs too */
     WHELK_REPORT_SHORT = 12,  /* the feed has more rows than the report has bytes */
     WHELK_NO_ROOM = 13,       /* the result doesn't fit what was lent */
     WHELK_NOT_ITS_RUNS = 14,  /* the run table is another than the list's */
@@ -92,6 +92,38 @@ uint32_t whelk_run_lookup(const uint8_t *bytes, size_t length, uint32_t address)
    Returns 65,536 x number + hop. The number is 0, or 11 if the list is ill-formed. */
 uint32_t whelk_plain_lookup(size_t count, const uint64_t *keys, size_t keys_length, const uint16_t *hops, size_t hops_length,
                             uint32_t address);
+
+/* What a packing returns: its number, the width, how many words were written, which is how many bases were too, and how many hops. */
+struct whelk_packed {
+    size_t number;
+    size_t width;
+    size_t words;
+    size_t hops;
+};
+
+/* A segment is packed into this many words, as many bases and this many hops at the most. */
+#define WHELK_TOP_WORDS 4096
+#define WHELK_TOP_HOPS 65536
+
+/* Packs segment q of a list: the 65,536 addresses whose first 16 bits are q. The list comes with its run table as a build left it, the
+   first `runs` runs of starts and run_hops. Both are checked, which goes through all of the list.
+   words, bases and packed_hops get the segment, and slots past its counts stay as they were. The width is the greatest length of a listed
+   prefix in the segment, less 16, and 0 if none is longer than 16. There is 1 word for a width of 0 to 3, and there are 2^(width - 4) for
+   a greater one. Lend WHELK_TOP_WORDS slots in words and in bases and WHELK_TOP_HOPS in packed_hops; that is always enough.
+   Returns number 0, the width and both counts; or 11 if the list is ill-formed or `runs` is above one of the lengths or WHELK_TOP_RUNS, 14
+   if the run table is another than the list's, or 13 if one of the three is too short. */
+struct whelk_packed whelk_pack(uint16_t q, size_t count, const uint64_t *keys, size_t keys_length, const uint16_t *hops, size_t hops_length,
+                               size_t runs, const uint32_t *starts, size_t starts_length, const uint16_t *run_hops, size_t run_hops_length,
+                               uint16_t *words, size_t words_length, uint16_t *bases, size_t bases_length, uint16_t *packed_hops,
+                               size_t packed_hops_length);
+
+/* Looks an address up in a packed segment, by the address's last 16 bits: that the segment is that of the first 16 is up to the caller.
+   The width and the lengths are what packing returned: width, words, words again and hops. The segment is not checked: in one that no
+   packing left, the hop is that of the place which its word and base give.
+   Returns 65,536 x number + hop. The number is 0, or 19 if the width is above 16 or there is no word, base or hop for the address. Number
+   0 with hop 0 says that nothing matches. */
+uint32_t whelk_packed_lookup(uint32_t width, const uint16_t *words, size_t words_length, const uint16_t *bases, size_t bases_length,
+                             const uint16_t *hops, size_t hops_length, uint32_t address);
 
 #ifdef __cplusplus
 }

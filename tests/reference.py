@@ -1,6 +1,7 @@
 #!/usr/bin/env python3
 """A reference for the tests: document 01's rules for feeds, plain lookup, run tables and the program, in Python's standard library. It was
-written from the document alone, by a hand that had seen none of the library; made to be read against the document, not to be quick.
+written from the document alone, by a hand that had seen none of the library; made to be read against the document, not to be quick. Packed
+segments were added later, from docs/RULES.md.
 
 A prefix is a pair (network, length), a route a triple (network, length, hop). As a program it reads a feed from standard input and writes
 what the program `whelk` has to write.
@@ -99,6 +100,32 @@ def runs_of(routes):
         if not runs or runs[-1][1] != hop:
             runs.append((start, hop))
     return runs
+
+
+def packed(routes, q):
+    """Segment q packed: its width, its words, their bases, and its hops (9.2 to 9.8)."""
+    width = max((length - 16 for network, length, _ in routes if length > 16 and network // 65_536 == q), default=0)
+    size = 2 ** (16 - width)
+    answers = [plain(routes, address) for address in range(65_536 * q, 65_536 * (q + 1), size)]
+    bits = "1" + "".join("01"[one != other] for one, other in zip(answers, answers[1:]))
+    hops = [hop for hop, bit in zip(answers, bits) if bit == "1"]
+    texts = [bits[i:i + 16].ljust(16, "0") for i in range(0, len(bits), 16)]
+    bases = [0]
+    for text in texts[:-1]:
+        bases.append(bases[-1] + text.count("1"))
+    return width, [int(text, 2) for text in texts], bases, hops
+
+
+def packed_lookup(width, words, bases, hops, address):
+    """The number and the hop that a packed lookup returns (9.10 to 9.13)."""
+    if width > 16:
+        return 19, 0
+    bits = f"{address % 65_536:016b}"  # the block is the number of the first `width` of them
+    word, bit = divmod(int("0" + bits[:width], 2), 16)
+    if word >= min(len(words), len(bases)):
+        return 19, 0
+    place = bases[word] + f"{words[word]:016b}"[:bit + 1].count("1") - 1
+    return (0, hops[place]) if 0 <= place < len(hops) else (19, 0)
 
 
 def dotted(address):

@@ -1,18 +1,6 @@
 /* The same sweep as a C programmer writes it: the list is checked, and the open prefixes stand on a stack. */
 #include "../in_c.h"
-
-static int list_ok(size_t count, const uint64_t *keys, size_t keys_length, const uint16_t *hops, size_t hops_length)
-{
-    size_t i;
-    if (count > keys_length || count > hops_length || count > 1048576) return 0;
-    for (i = 0; i < count; i++) {
-        unsigned length = keys[i] & 63;
-        uint64_t network = keys[i] >> 6;
-        if (length > 32 || network > 0xffffffff || (network & ((1ull << (32 - length)) - 1)) != 0) return 0;
-        if (hops[i] == 0 || (i + 1 < count && keys[i] >= keys[i + 1])) return 0;
-    }
-    return 1;
-}
+#include "list.h"
 
 uint64_t c_build(size_t count, const uint64_t *keys, size_t keys_length, const uint16_t *hops, size_t hops_length, uint32_t *starts,
                  size_t starts_length, uint16_t *run_hops, size_t run_hops_length)

@@ -1,6 +1,7 @@
-/* Our build and run lookup beside what a user would install instead: DPDK's rte_lpm and rte_fib (DIR24_8), started without huge pages. A next
-   hop of rte_fib's has 4 bytes here: in 2 it couldn't be over 32,767. Addresses are the same in every round: random, local as in run_lookup.c,
-   or listed, each in some row, since in a short list few others match.
+/* Our build, run lookup and packed lookup beside what a user would install instead: DPDK's rte_lpm and rte_fib (DIR24_8), started without
+   huge pages. A next hop of rte_fib's has 4 bytes here: in 2 it couldn't be over 32,767. Addresses are the same in every round: random,
+   local as in run_lookup.c, or listed, each in some row, since in a short list few others match. All segments are packed before times are
+   taken; packed.c has the time of that.
    It stops at 100,000 rows: rte_lpm_add goes through all rows of the same length, and a build from a million rows took it 75 seconds. */
 #include <rte_eal.h>
 #include <rte_fib.h>
@@ -9,6 +10,7 @@
 #include <rte_version.h>
 
 #include "../nested.h"
+#include "../packing.h"
 #include "whelkhollow.h"
 
 #define MOST 100000u
@@ -31,6 +33,12 @@ static struct rte_fib *fib;
         }                                \
     }
 
+static inline uint32_t of_packed(uint32_t a)
+{
+    struct segment s = segments[a >> 16];
+    return IN_SEGMENT(whelk_packed_lookup, s, a);
+}
+
 static inline uint32_t of_lpm(uint32_t a)
 {
     uint32_t hop;
@@ -49,13 +57,14 @@ static inline void fib_by(unsigned burst)
 
 static void slices(void) OVER_ADDRESSES((uint32_t)whelk_run_lookup_slices(runs, starts, runs, run_hops, runs, a))
 static void in_bytes(void) OVER_ADDRESSES(whelk_run_lookup(bytes, 6 * runs, a))
+static void in_packed(void) OVER_ADDRESSES(of_packed(a))
 static void in_lpm(void) OVER_ADDRESSES(of_lpm(a))
 static void in_fib(void) { fib_by(1); }
 static void in_fib_by_32(void) { fib_by(32); }
 
-enum { SLICES, IN_BYTES, IN_LPM, IN_FIB, IN_FIB_BY_32, SIDES };
-static const char *const names[SIDES] = {"slices", "run bytes", "rte_lpm", "rte_fib", "rte_fib by 32"};
-static void (*const lookups[SIDES])(void) = {slices, in_bytes, in_lpm, in_fib, in_fib_by_32};
+enum { SLICES, IN_BYTES, IN_PACKED, IN_LPM, IN_FIB, IN_FIB_BY_32, SIDES };
+static const char *const names[SIDES] = {"slices", "run bytes", "packed", "rte_lpm", "rte_fib", "rte_fib by 32"};
+static void (*const lookups[SIDES])(void) = {slices, in_bytes, in_packed, in_lpm, in_fib, in_fib_by_32};
 
 /* A row with a column for each side; a side that has no part in it has 0. */
 static void columns(const char *what, const char *inputs, const double *numbers, const char *unit)
@@ -124,7 +133,11 @@ static void build(void)
         uint8_t run[6] = {starts[i] >> 24, starts[i] >> 16, starts[i] >> 8, starts[i], run_hops[i] >> 8, run_hops[i]};
         memcpy(bytes + 6 * i, run, 6);
     }
+    part_list(keys, hops, n);
+    lay_out();
+    pack_all(our_pack);
     memory[SLICES] = memory[IN_BYTES] = 1e-3 * (double)(6 * runs);
+    memory[IN_PACKED] = 1e-3 * (double)(arena_length * sizeof arena[0] + sizeof segments);
     medians("build, for each row", "nested", times, n);
     columns("memory", "nested", memory, "kB");
 }
@@ -159,7 +172,8 @@ int main(void)
         return 2;
     }
     printf("%s without huge pages. Its empty tables are made before the time of a build. Memory is 6 bytes a run for ours, without the\n"
-           "list, and for DPDK what its heap gives out for a table, its own copy of the list included.\n", rte_version());
+           "list; for packed, all segments and 12 bytes more for each; and for DPDK what its heap gives out for a table, its own copy of\n"
+           "the list included.\n", rte_version());
     printf("work                        size  inputs   ");
     for (s = 0; s < SIDES; s++) printf(" %13s", names[s]);
     printf("\n");

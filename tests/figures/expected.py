@@ -4,7 +4,7 @@ import pathlib
 import sys
 
 sys.path.insert(0, str(pathlib.Path(__file__).resolve().parent.parent))
-from reference import counts_of, dotted, import_feed, runs_of
+from reference import counts_of, dotted, import_feed, packed, packed_lookup, plain, runs_of
 
 PLAIN_ANSWERS = """\
 # Plain answers of list A
@@ -86,6 +86,19 @@ BUILDS = [
     ("the same without it", SIBLINGS, 7, None),
 ]
 
+A_21 = LIST_A + ["200.27.240.0/21 2"]
+ENDS = ["10.0.0.0/8 7", "10.64.0.1/32 5", "10.64.255.255/32 9"]
+
+# Each packed segment: its name, the rows of its list, the segment, an address in it, how many words, as many bases, and hops are lent, and
+# what document 01 or the name says of it: the width, and how many words and hops there are.
+PACKINGS = [
+    ("51227 of A with 200.27.240.0/21 hop 2", A_21, 51_227, "200.27.112.170", 3, 7, (5, 2, 6)),
+    ("the same in one hop less than it takes", A_21, 51_227, "200.27.112.170", 2, 5, (5, 2, 6)),
+    ("2624 inside 10.0.0.0/8, width 0", ["10.0.0.0/8 7", "10.65.0.1/32 5"], 2_624, "10.64.118.254", 2, 2, (0, 1, 1)),
+    ("2624 with 10.64.0.1/32 and 10.64.255.255/32, width 16", ENDS, 2_624, "10.64.0.1", 4_096, 4, (16, 4_096, 4)),
+    ("65535 of the empty list", [], 65_535, "255.255.255.254", 1, 1, (0, 1, 1)),
+]
+
 
 def line(name, values):
     print(" ".join([name] + [str(value) for value in values]))
@@ -121,8 +134,33 @@ def show_build(name, rows, room, figure):
         print(slot)
 
 
+def show_packing(name, rows, q, between, room, hop_room, figure):
+    """A packing into slots that hold 9, of which 16 are shown, and three answers of what it leaves."""
+    _, routes = import_feed("".join(row + "\n" for row in rows).encode(), len(rows))
+    width, words, bases, hops = packed(routes, q)
+    assert (width, len(words), len(hops)) == figure
+    if rows == A_21:  # rule 14.6
+        assert (words, bases, hops) == ([32_898, 40_962], [0, 3], [3, 1, 2, 1, 3, 2])
+    number, counts = 0, [width, len(words), len(hops)]
+    if room < len(words) or hop_room < len(hops):
+        number, counts, words, bases, hops = 13, [0, 0, 0], [], [], []
+    print("# Packed segment:", name)
+    for what, value in zip(["number", "width", "word count", "hop count"], [number] + counts):
+        line(what, [value])
+    line("words", (words + [9] * (room - len(words)))[:16])
+    line("bases", (bases + [9] * (room - len(bases)))[:16])
+    line("hops", (hops + [9] * (hop_room - len(hops)))[:16])
+    if number == 0:
+        middle = int.from_bytes(bytes(int(octet) for octet in between.split(".")), "big")
+        for address in (65_536 * q, middle, 65_536 * q + 65_535):
+            assert packed_lookup(width, words, bases, hops, address) == (0, plain(routes, address))
+            print(dotted(address), plain(routes, address))
+
+
 print(PLAIN_ANSWERS, end="")
 for case in IMPORTS:
     show_import(*case)
 for case in BUILDS:
     show_build(*case)
+for case in PACKINGS:
+    show_packing(*case)

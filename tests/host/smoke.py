@@ -8,6 +8,10 @@ class Counts(Structure):
     _fields_ = [(name, c_size_t) for name in ("number", "rows", "taken", "shape", "range", "hostbits", "repeat", "noroom")]
 
 
+class Packed(Structure):
+    _fields_ = [(name, c_size_t) for name in ("number", "width", "words", "hops")]
+
+
 library = CDLL(sys.argv[1])
 SLICE = (c_void_p, c_size_t)
 for name, result, arguments in (
@@ -16,6 +20,8 @@ for name, result, arguments in (
     ("whelk_build", c_uint64, (c_size_t, *(4 * SLICE))),
     ("whelk_run_lookup_slices", c_uint64, (c_size_t, *SLICE, *SLICE, c_uint32)),
     ("whelk_run_lookup", c_uint32, (*SLICE, c_uint32)),
+    ("whelk_pack", Packed, (c_uint16, c_size_t, *SLICE, *SLICE, c_size_t, *(5 * SLICE))),
+    ("whelk_packed_lookup", c_uint32, (c_uint32, *(3 * SLICE), c_uint32)),
 ):
     getattr(library, name).restype = result
     getattr(library, name).argtypes = arguments
@@ -43,6 +49,15 @@ answers = [
 runs = b"".join(starts[i].to_bytes(4, "big") + run_hops[i].to_bytes(2, "big") for i in range(5))
 runs = (c_uint8 * len(runs)).from_buffer_copy(runs)
 answers += [(library.whelk_run_lookup(*lent(runs), 0xA410000), 7), (library.whelk_run_lookup(runs, 29, 0), 65536 * 11)]
+words, bases, packed_hops = (c_uint16 * 2)(9, 9), (c_uint16 * 2)(9, 9), (c_uint16 * 2)(9, 9)
+packed = library.whelk_pack(0xA40, 2, *lent(keys, hops), 5, *lent(starts, run_hops, words, bases, packed_hops))
+answers += [
+    ([getattr(packed, name) for name, _ in Packed._fields_], [0, 0, 1, 1]),
+    ([list(words), list(bases), list(packed_hops)], [[32768, 9], [0, 9], [9, 9]]),
+    (library.whelk_packed_lookup(0, words, 1, bases, 1, packed_hops, 1, 0xA400001), 9),
+    (library.whelk_packed_lookup(17, *lent(words, bases, packed_hops), 0), 65536 * 19),
+    (library.whelk_pack(0xA40, 2, *lent(keys, hops), 4, *lent(starts, run_hops, words, bases, packed_hops)).number, 14),
+]
 failed = [(got, wanted) for got, wanted in answers if got != wanted]
 for got, wanted in failed:
     print(f"failed: {got} and not {wanted}")

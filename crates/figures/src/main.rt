@@ -1,9 +1,11 @@
-// The worked figures of rules 14.3, 14.4, 14.7, 14.8 and 14.11, as far as they are plain answers and run tables, and corners of the import.
-// tests/figures/expected.py makes what it has to write.
+// The worked figures of rules 14.3, 14.4, 14.6, 14.7, 14.8 and 14.11, as far as they are plain answers, run tables and packed segments, and
+// corners of the import and of packing. tests/figures/expected.py makes what it has to write.
 use feed::Counts;
 use feed::ImportEnd;
 use routes::Looked;
 use runs::Built;
+use segment::PackedHop;
+use segment::Packing;
 ghost use Prim.Native.Nat.{_≤_};
 
 // What stands in a key's slot that nothing has written: 9.9.9.9/32. In a hop's slot and in the report it is 9.
@@ -406,6 +408,164 @@ fn builds_of_corners() {
     );
 }
 
+// Up to 16 slots of a column, after its name on a line.
+fn slots(name: &[u8], column: &[u16]) {
+    print::text(name);
+    let mut i = 0;
+    while i < 16 {
+        if i < column.len() {
+            hop(column[i]);
+        }
+        i += 1;
+    }
+    print::text(b"\n");
+}
+
+// What a packed segment answers at an address.
+fn in_packed(width: u32, words: &[u16], bases: &[u16], hops: &[u16], a: u32) {
+    match segment::packed_lookup(width, words, bases, hops, a) {
+        PackedHop::Hop(hop) => print::answer(a, hop),
+        PackedHop::Outside => print::text(b"19\n"),
+    }
+}
+
+// A packing's number, the width, the counts of words and of hops, and the first slots of each slice that it was lent.
+fn packed(
+    number: u64,
+    width: u64,
+    word_count: u64,
+    hop_count: u64,
+    words: &[u16],
+    bases: &[u16],
+    hops: &[u16],
+) {
+    print::line(b"number", number);
+    print::line(b"width", width);
+    print::line(b"word count", word_count);
+    print::line(b"hop count", hop_count);
+    slots(b"words", words);
+    slots(b"bases", bases);
+    slots(b"hops", hops);
+}
+
+// Three answers of packed segment q: at its ends, and at the address `a`.
+fn answers(q: u16, a: u32, width: u32, words: &[u16], bases: &[u16], hops: &[u16]) {
+    let first = (q as u32) * 65536;
+    in_packed(width, words, bases, hops, first);
+    in_packed(width, words, bases, hops, a);
+    in_packed(width, words, bases, hops, first + 65535);
+}
+
+// Segment q of a list packed, and answers of the packed segment.
+fn packing(
+    q: u16,
+    a: u32,
+    count: usize,
+    keys: &[u64],
+    hops: &[u16],
+    runs: usize,
+    starts: &[u32],
+    rhops: &[u16],
+    words: &mut [u16],
+    bases: &mut [u16],
+    out: &mut [u16],
+) {
+    match segment::pack(q, count, keys, hops, runs, starts, rhops, words, bases, out) {
+        Packing::Done {
+            width,
+            words: n,
+            hops: m,
+        } => {
+            packed(0, width, n as u64, m as u64, words, bases, out);
+            answers(q, a, (width % 32) as u32, words, bases, out);
+        }
+        Packing::IllFormed => packed(11, 0, 0, 0, words, bases, out),
+        Packing::NotItsRuns => packed(14, 0, 0, 0, words, bases, out),
+        Packing::NoRoom => packed(13, 0, 0, 0, words, bases, out),
+    }
+}
+
+// Segment q of a feed's list packed, where the list has at most 8 rows.
+fn of_feed(feed: &[u8], q: u16, a: u32, words: &mut [u16], bases: &mut [u16], out: &mut [u16]) {
+    let mut keys = [0u64; 8];
+    let mut hops = [0u16; 8];
+    let mut report = [0u8; 8];
+    let i = feed::import(feed, &mut keys, &mut hops, &mut report);
+    let c = i.counts;
+    let count = c.of[feed::TAKEN as usize];
+    let mut starts = [0u32; 17];
+    let mut rhops = [0u16; 17];
+    match runs::build(count, &keys, &hops, &mut starts, &mut rhops) {
+        Built::Runs(n) => packing(
+            q,
+            a,
+            count,
+            &keys,
+            &hops,
+            n,
+            &starts,
+            &rhops,
+            words,
+            bases,
+            out,
+        ),
+        Built::IllFormed => print::text(b"run table refused\n"),
+        Built::NoRoom => print::text(b"run table refused\n"),
+    }
+}
+
+// Segment q of a feed's list, packed into `w` words and bases and `h` hops that hold what nothing has written.
+fn pack(name: &[u8], feed: &[u8], q: u16, a: u32, w: usize, h: usize)
+    requires { ⌜ (w ≤ 4096) × (h ≤ 16) ⌝ }
+{
+    print::text(b"# Packed segment: ");
+    print::text(name);
+    print::text(b"\n");
+    let mut words = [9u16; 4096];
+    let mut bases = [9u16; 4096];
+    let mut out = [9u16; 16];
+    of_feed(feed, q, a, &mut words[..w], &mut bases[..w], &mut out[..h]);
+}
+
+// Rule 14.6: the packed segment of A with a prefix that changes the width and no answer. And the least and the greatest width.
+fn packings() {
+    pack(
+        b"51227 of A with 200.27.240.0/21 hop 2",
+        b"200.24.0.0/14 1\n200.26.0.0/15 2\n200.27.0.0/16 3\n200.27.64.0/18 1\n200.27.112.0/20 2\n\
+          200.27.128.0/20 1\n200.27.240.0/20 2\n200.27.240.0/21 2\n",
+        51227,
+        3357241514,
+        3,
+        7,
+    );
+    pack(
+        b"the same in one hop less than it takes",
+        b"200.24.0.0/14 1\n200.26.0.0/15 2\n200.27.0.0/16 3\n200.27.64.0/18 1\n200.27.112.0/20 2\n\
+          200.27.128.0/20 1\n200.27.240.0/20 2\n200.27.240.0/21 2\n",
+        51227,
+        3357241514,
+        2,
+        5,
+    );
+    pack(
+        b"2624 inside 10.0.0.0/8, width 0",
+        b"10.0.0.0/8 7\n10.65.0.1/32 5\n",
+        2624,
+        171996926,
+        2,
+        2,
+    );
+    pack(
+        b"2624 with 10.64.0.1/32 and 10.64.255.255/32, width 16",
+        b"10.0.0.0/8 7\n10.64.0.1/32 5\n10.64.255.255/32 9\n",
+        2624,
+        171966465,
+        4096,
+        4,
+    );
+    pack(b"65535 of the empty list", b"", 65535, 4294967294, 1, 1);
+}
+
 fn main() {
     plain_answers();
     import_rows();
@@ -416,4 +576,5 @@ fn main() {
     import_reports();
     builds_of_a();
     builds_of_corners();
+    packings();
 }

@@ -181,6 +181,9 @@ corners =
     ∷ figure (packedNumber 17 (1 ∷ []) (1 ∷ []) (1 ∷ []) ∷ packedNumber 0 [] (0 ∷ []) (1 ∷ []) ∷ []) (19 ∷ 19 ∷ [])
     ∷ figure (packedNumber 0 (32768 ∷ []) [] (1 ∷ []) ∷ packedNumber 0 (32768 ∷ []) (0 ∷ []) [] ∷ []) (19 ∷ 19 ∷ [])
     ∷ figure (packedNumber 0 (0 ∷ []) (0 ∷ []) (1 ∷ []) ∷ packedNumber 0 (32768 ∷ []) (0 ∷ []) (0 ∷ []) ∷ []) (19 ∷ 0 ∷ [])
+    -- Rule 7.10: a packed lookup for C, with the greatest hop, and outside.
+    ∷ one (lookupForC (packedLookup (segmentLent 0 (32768 ∷ []) (0 ∷ []) (65535 ∷ [])) 1)) 65535
+    ∷ one (lookupForC (packedLookup (segmentLent 17 [] [] []) 0)) 1245184
     -- Rules 11.5 and 11.6: a list of one row has 0.0.0.0/0 with label 0 as its second half, and the count is n - k + 1.
     ∷ figure (hopsOf (secondHalf 1 (route 0 0 0 0 0 4 ∷ []))) (0 ∷ [])
     ∷ one (length (secondHalf 4 (announced (prefix 0 0 0 0 0) 4 listA))) 5

@@ -13,6 +13,9 @@ use Rattle.runs.specs.declared.Built.{Built}
 use Rattle.runs.specs.declared.Built.the-variants as B
 use Rattle.runs.specs.Lookup.{runLookupGave}
 use Rattle.runs.specs.Build.{BuildOutcome, buildGave}
+use Rattle.segment.specs.declared.PackedHop.{PackedHop}
+use Rattle.segment.specs.declared.PackedHop.the-variants as H
+use Rattle.segment.specs.Lookup.{packedGave}
 use Rattle.host.specs.Exports.{lookupForC, runLookupForC, builtForC, buildGaveC, buildForC}
 
 module _ (r : Looked) where
@@ -23,6 +26,15 @@ module _ (r : Looked) where
   pub ill-formed-carried : r ≡ L.IllFormed → 720896 ≡ lookupForC (lookupGave r)
   unfolding lookupForC
   ill-formed-carried e = rw e (omega arith)
+
+module _ (r : PackedHop) where
+  pub packed-hop-carried : {h : ℕ} → r ≡ H.Hop h → h ≡ lookupForC (packedGave r)
+  unfolding lookupForC
+  packed-hop-carried e = rw e (omega arith)
+
+  pub outside-carried : r ≡ H.Outside → 1245184 ≡ lookupForC (packedGave r)
+  unfolding lookupForC
+  outside-carried e = rw e (omega arith)
 
 module _ (r : Probed) where
   pub few-probes : {h p : ℕ} → r ≡ P.Hop h p → runLookupGave r .probes ≤ 64 → p ≤ 64

@@ -1,3 +1,4 @@
 mod Carried
 mod ImportCarried
+mod PackCarried
 pub mod Settled

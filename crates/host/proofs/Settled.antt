@@ -1,12 +1,14 @@
--- What C gets from an import and from a build is settled: two outcomes that keep the promise for one input are the same, in what is
--- returned and in each lent slice. The lookups promise an equation.
+-- What C gets from an import, from a build and from a packing is settled: two outcomes that keep the promise for one input are the same,
+-- in what is returned and in each lent slice. The lookups promise an equation.
 -- Assumes nothing.
 use mathlib.Core.Path.{_≡_, sym, ap, _∙_}
 use mathlib.Core.List.{List}
 use Prim.Native.Nat.{ℕ}
 use Rattle.feed.specs.Import.{ImportLent, import}
+use Rattle.segment.specs.Pack.{PackOutcome}
 use Rattle.host.specs.declared.WhelkCounts.{WhelkCounts}
-use Rattle.host.specs.Exports.{hostImportGave, BuildForC, buildGaveC}
+use Rattle.host.specs.declared.WhelkPacked.{WhelkPacked}
+use Rattle.host.specs.Exports.{hostImportGave, hostPackGave, BuildForC, buildGaveC}
 use Rattle.host.proofs.ImportCarried.{toC}
 
 -- what C gets from an import and the three slices at exit can be told from what they say
@@ -25,3 +27,12 @@ pub host-build-settled : (o : BuildForC) (r r′ : ℕ) (s s′ h h′ : List �
 host-build-settled o r r′ s s′ h h′ e e′ =
     let same = e ∙ sym e′ in
     (ap (λ (x : BuildForC). x .answer) same, ap (λ (x : BuildForC). x .starts) same, ap (λ (x : BuildForC). x .hops) same)
+
+-- what C gets from a packing's outcome
+abbrev packed-of : PackOutcome → WhelkPacked
+packed-of o = record { number = o .number; width = o .width; words = o .wordCount; hops = o .hopCount }
+
+pub host-pack-settled : (o : PackOutcome) (r r′ : WhelkPacked) (w w′ b b′ h h′ : List ℕ)
+    → hostPackGave r w b h ≡ o → hostPackGave r′ w′ b′ h′ ≡ o → (r ≡ r′) × (w ≡ w′) × (b ≡ b′) × (h ≡ h′)
+host-pack-settled o r r′ w w′ b b′ h h′ e e′ =
+    let same = e ∙ sym e′ in (ap packed-of same, ap (λ x. x .words) same, ap (λ x. x .bases) same, ap (λ x. x .hops) same)

@@ -1,4 +1,4 @@
--- Rules 7.9 and 7.10: what the exports return to C. An import gives a struct, and each other call puts its numbers into one.
+-- Rules 7.9 and 7.10: what the exports return to C. An import and a packing give a struct, and each other call puts its numbers into one.
 -- Assumes nothing.
 use mathlib.Core.List.{List, [], _∷_}
 use Prim.Native.Nat.{ℕ, _+_, _*_}
@@ -7,7 +7,9 @@ use Rattle.feed.specs.declared.Counts.{Counts}
 use Rattle.feed.specs.Import.{ImportOutcome}
 use Rattle.runs.specs.Build.{BuildOutcome}
 use Rattle.runs.specs.Lookup.{RunLookupOutcome}
+use Rattle.segment.specs.Pack.{PackOutcome}
 use Rattle.host.specs.declared.WhelkCounts.{WhelkCounts}
+use Rattle.host.specs.declared.WhelkPacked.{WhelkPacked}
 
 -- Rule 4.5: the seven counts that C gets, all rows and then one for each row number.
 abbrev pub countsIn : WhelkCounts → Counts
@@ -20,6 +22,18 @@ countsIn w = record {
 abbrev pub hostImportGave : WhelkCounts → List ℕ → List ℕ → List ℕ → ImportOutcome
 hostImportGave w keys hops report =
     record { number = w .number; counts = countsIn w; keys = keys; hops = hops; report = report }
+
+-- Rule 7.10: what C gets from a packing and the three slices at exit, as a packing's outcome.
+abbrev pub hostPackGave : WhelkPacked → List ℕ → List ℕ → List ℕ → PackOutcome
+hostPackGave w words bases hops = record {
+  number = w .number;
+  width = w .width;
+  wordCount = w .words;
+  hopCount = w .hops;
+  words = words;
+  bases = bases;
+  hops = hops;
+}
 
 -- Rules 7.9 and 7.10: a lookup gives C hop + 65,536 × number.
 unfoldable pub lookupForC : LookupOutcome → ℕ

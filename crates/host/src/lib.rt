@@ -1,6 +1,7 @@
 // The C interface: the library's entries over memory that the host lends, each with one number or one plain struct back. It adds no rule of
 // its own; include/whelkhollow.h declares what is exported here.
 ghost use Rattle.host.specs.Exports.{hostImportGave, lookupForC, runLookupForC, builtForC, buildGaveC, buildForC};
+ghost use Rattle.host.specs.Exports.{hostPackGave};
 ghost use mathlib.Core.Path.{_≡_};
 ghost use mathlib.Core.List.{[]};
 ghost use Prim.Native.Nat.{_≤_};
@@ -10,10 +11,15 @@ ghost use Rattle.routes.specs.Lookup.{lookupGave, plainLookup};
 ghost use Rattle.runs.specs.Table.{runsLent};
 ghost use Rattle.runs.specs.Build.{slotsLent, buildGave, build};
 ghost use Rattle.runs.specs.Lookup.{runLookupGave, runLookup, bytesLookup};
+ghost use Rattle.runs.specs.Pair.{pair};
+ghost use Rattle.segment.specs.Pack.{packLent, packRefused, packGave, pack};
+ghost use Rattle.segment.specs.Lookup.{segmentLent, packedGave, packedLookup};
 use feed::ImportEnd;
 use routes::Looked;
 use runs::Built;
 use runs::Probed;
+use segment::PackedHop;
+use segment::Packing;
 
 // Rule 7.10: what an import returns to C, its number and the seven counts.
 #[repr(C)]
@@ -69,6 +75,8 @@ pub extern "C" fn whelk_import(
 pub const NUMBER_UNIT: u32 = 65536;
 
 pub const LOOKUP_ILL_FORMED: u32 = NUMBER_UNIT * ground::ILL_FORMED;
+
+pub const LOOKUP_OUTSIDE: u32 = NUMBER_UNIT * ground::OUTSIDE_PACKED;
 
 // A build's number stands above its count, and a run lookup's probes above its number and hop.
 pub const HIGH_UNIT: u64 = 4294967296;
@@ -144,4 +152,90 @@ pub extern "C" fn whelk_build(
         (build (listLent count (now (keys .entry)) (now (hops .entry))) (slotsLent (now (starts .entry)) (now (rhops .entry)))) ⌝ }
 {
     built_for_c(runs::build(count, keys, hops, starts, rhops))
+}
+
+// Rule 7.10: a packed lookup gives C hop + 65,536 × number.
+fn packed_for_c(r: PackedHop) -> u32
+    ensures { λ n. ⌜ n ≡ lookupForC (packedGave r) ⌝ }
+{
+    match r {
+        PackedHop::Hop(h) => h as u32,
+        PackedHop::Outside => LOOKUP_OUTSIDE,
+    }
+}
+
+// Rules 9.10 to 9.13: lookup in a packed segment, by the last 16 bits of the address.
+#[no_mangle]
+pub extern "C" fn whelk_packed_lookup(
+    width: u32,
+    words: &[u16],
+    bases: &[u16],
+    hops: &[u16],
+    a: u32,
+) -> u32
+    ensures { λ r.
+        ⌜ r ≡ lookupForC (packedLookup (segmentLent width (now (words .entry)) (now (bases .entry)) (now (hops .entry))) a) ⌝ }
+{
+    packed_for_c(segment::packed_lookup(width, words, bases, hops, a))
+}
+
+// Rule 7.10: what a packing returns to C, its number, the width, and the counts of words and of hops.
+#[repr(C)]
+pub struct WhelkPacked {
+    pub number: usize,
+    pub width: usize,
+    pub words: usize,
+    pub hops: usize,
+}
+
+// Rule 5.4: a refused packing's number, and 0 for the rest.
+fn not_packed(number: u32) -> WhelkPacked
+    ensures { λ w. ⌜ hostPackGave w [] [] [] ≡ packRefused (packLent [] [] []) number ⌝ }
+{
+    WhelkPacked {
+        number: number as usize,
+        width: 0,
+        words: 0,
+        hops: 0,
+    }
+}
+
+// Rule 7.10: a packing's answer as C gets it.
+fn packing_for_c(r: Packing) -> WhelkPacked
+    ensures { λ w. ⌜ hostPackGave w [] [] [] ≡ packGave r [] [] [] ⌝ }
+{
+    match r {
+        Packing::Done { width, words, hops } => WhelkPacked {
+            number: ground::DONE as usize,
+            width: width as usize,
+            words,
+            hops,
+        },
+        Packing::IllFormed => not_packed(ground::ILL_FORMED),
+        Packing::NotItsRuns => not_packed(ground::NOT_ITS_RUNS),
+        Packing::NoRoom => not_packed(ground::NO_ROOM),
+    }
+}
+
+// Rule 9.9: segment q of a list and its run table into lent words, bases and hops.
+#[no_mangle]
+pub extern "C" fn whelk_pack(
+    q: u16,
+    count: usize,
+    keys: &[u64],
+    hops: &[u16],
+    runs: usize,
+    starts: &[u32],
+    rhops: &[u16],
+    words: &mut [u16],
+    bases: &mut [u16],
+    out: &mut [u16],
+) -> WhelkPacked
+    ensures { λ r.
+        ⌜ hostPackGave r (now (words .exit)) (now (bases .exit)) (now (out .exit))
+        ≡ pack q
+        (pair (listLent count (now (keys .entry)) (now (hops .entry))) (runsLent runs (now (starts .entry)) (now (rhops .entry))))
+        (packLent (now (words .entry)) (now (bases .entry)) (now (out .entry))) ⌝ }
+{
+    packing_for_c(segment::pack(q, count, keys, hops, runs, starts, rhops, words, bases, out))
 }
