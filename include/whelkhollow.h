@@ -32,7 +32,7 @@ enum whelk_number {
 
 /* A list has a count, keys and hops. The key of a prefix is network x 64 + length. Keys rise strictly, and hops are 1 to 65,535. A list is
    ill-formed if its count is above one of the lengths or above WHELK_TOP_ROWS, if keys don't rise, if a hop is 0, or if a key is no prefix: its
-   length is above 32, or a bit of its network beyond the length is 1. What an import leaves is never ill-formed. */
+   length is above 32, its network is above 255.255.255.255, or a bit of its network beyond the length is 1. What an import leaves is never ill-formed. */
 #define WHELK_TOP_ROWS 1048576
 
 /* A run table cuts the addresses into runs with one hop each. A run goes from its start to the address before the next start, and the last one

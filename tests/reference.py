@@ -1,7 +1,6 @@
 #!/usr/bin/env python3
-"""A reference for the tests: document 01's rules for feeds, plain lookup, run tables and the program, in Python's standard library. It was
-written from the document alone, by a hand that had seen none of the library; made to be read against the document, not to be quick. Packed
-segments were added later, from docs/RULES.md.
+"""A reference for the tests: the rules for feeds, plain lookup, run tables, packed segments and the program, in Python's standard library. It was
+written from the rules alone, by hands that had seen none of the code it checks; made to be read against docs/RULES.md, not to be quick.
 
 A prefix is a pair (network, length), a route a triple (network, length, hop). As a program it reads a feed from standard input and writes
 what the program `whelk` has to write.

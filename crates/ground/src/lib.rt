@@ -1,4 +1,4 @@
-// What every other crate stands on and that knows nothing of routes: the numbers that a call returns, stretches of numbers, what a lent
+// What the other crates stand on and that knows nothing of routes: the numbers that a call returns, stretches of numbers, what a lent
 // slice holds after a call, and the moves of one column. It is for this library's crates and not for callers.
 // The moves of a column stand once for each width.
 pub mod column16;
