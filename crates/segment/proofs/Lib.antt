@@ -17,3 +17,4 @@ pub mod PackThenLookup
 pub mod WordMaking
 pub mod WordsWriting
 pub mod Settled
+pub mod AsManyHops

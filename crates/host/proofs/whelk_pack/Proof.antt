@@ -22,7 +22,9 @@ same-length-3 c = search needs
 
 -- the packing, from where the slices are known after it
 abbrev at-pack : tie.After-slice-known6 → tie.After-pack
-at-pack c = c .before .before .before .before .before .before
+at-pack c =
+    let bases = c .before .before .before in
+    bases .before .before .before
 
 returns : tie.Need-returns
 returns c =
