@@ -2,6 +2,7 @@
 -- a power of 10, and the bound in `decimalBy` plays no part.
 -- Assumes nothing.
 use mathlib.Core.Path.{_≡_, refl, sym, ap, _∙_}
+use mathlib.Core.Logic.{⊎-elim}
 use mathlib.Core.Bool.{Bool, true, false}
 use mathlib.Core.List.{List, [], _∷_, _++_}
 use Prim.Native.Nat.{ℕ, zero, suc, _+_, _*_, _/_, _%_, _≤_, _<_}
@@ -9,7 +10,8 @@ use native.Mathlib.Nat.{not-suc-le-zero}
 use native.Mathlib.Omega.{arith}
 use lib.ListN.{length, length-append}
 use lib.Dec.{ltb}
-use borrow.Author.Tests.{ltb-false, lt-ltb, le-ltb}
+use borrow.Author.Tests.{ltb-true, ltb-false, lt-ltb, le-ltb}
+use Rattle.ground.proofs.Truth.{decided}
 use Rattle.text.specs.Text.{decimalBy, decimal}
 
 -- a tenth is less, so the bound falls with it
@@ -55,3 +57,12 @@ digits-small n l = ap length (decimal-small n l)
 
 pub digits-step : (n : ℕ) → 10 ≤ n → length (decimal n) ≡ length (decimal (n / 10)) + 1
 digits-step n l = ap length (decimal-step n l) ∙ length-append (decimal (n / 10)) _
+
+pub one-digit : (n : ℕ) → 1 ≤ length (decimal n)
+one-digit n = ⊎-elim (λ e. omega (arith, digits-small n (ltb-true n 10 e))) (λ e. omega (arith, digits-step n (ltb-false n 10 e))) (decided (ltb n 10))
+
+pub two-digits : (n : ℕ) → 10 ≤ n → 2 ≤ length (decimal n)
+two-digits n l = omega (arith, digits-step n l, one-digit (n / 10))
+
+pub three-digits : (n : ℕ) → 100 ≤ n → 3 ≤ length (decimal n)
+three-digits n l = omega (arith, digits-step n (omega arith), two-digits (n / 10) (omega arith))

@@ -42,7 +42,7 @@ fn put_rows(count: usize, keys: &[u64], hops: &[u16], out: &mut [u8]) -> usize
     let mut at = 0;
     let mut i = 0;
     while i < count {
-        at += put::row(&mut out[at..], keys[i], hops[i]);
+        at = put::row(out, at, keys[i], hops[i]);
         i += 1;
     }
     at
