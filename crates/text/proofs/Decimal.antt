@@ -5,8 +5,8 @@ use mathlib.Core.Path.{_≡_, refl, sym, ap, _∙_}
 use mathlib.Core.Logic.{⊎-elim}
 use mathlib.Core.Bool.{Bool, true, false}
 use mathlib.Core.List.{List, [], _∷_, _++_}
-use Prim.Native.Nat.{ℕ, zero, suc, _+_, _*_, _/_, _%_, _≤_, _<_}
-use native.Mathlib.Nat.{not-suc-le-zero}
+use Prim.Native.Nat.{ℕ, zero, suc, _+_, _*_, _/_, _%_, _^_, _≤_, _<_}
+use native.Mathlib.Nat.{not-suc-le-zero, pow-suc}
 use native.Mathlib.Omega.{arith}
 use lib.ListN.{length, length-append}
 use lib.Dec.{ltb}
@@ -66,3 +66,10 @@ two-digits n l = omega (arith, digits-step n l, one-digit (n / 10))
 
 pub three-digits : (n : ℕ) → 100 ≤ n → 3 ≤ length (decimal n)
 three-digits n l = omega (arith, digits-step n (omega arith), two-digits (n / 10) (omega arith))
+
+pub digits-at-most : (k n : ℕ) → n < 10 ^ suc k → length (decimal n) ≤ suc k
+digits-at-most zero n l = omega (arith, digits-small n l)
+digits-at-most (suc k) n l =
+    ⊎-elim (λ e. omega (arith, digits-small n (ltb-true n 10 e)))
+    (λ e. omega (arith, digits-step n (ltb-false n 10 e), digits-at-most k (n / 10) (omega (arith, pow-suc 10 (suc k)))))
+    (decided (ltb n 10))
