@@ -1,7 +1,7 @@
--- Bytes are put at a place one by one. A line is a name with a space after it and a number with an LF after it. The lines of one run more are
--- those of the runs before it with its own line behind them.
+-- Bytes are put at a place one by one. A line is a name with a space after it and a number with an LF after it. The lines of one run more
+-- are those of the runs before it with its own line behind them.
 -- Assumes nothing.
-use mathlib.Core.Path.{_≡_, refl, ap}
+use mathlib.Core.Path.{_≡_, ap}
 use mathlib.Core.List.{List, [], _∷_, _++_, append-assoc, append-nil}
 use Prim.Native.Nat.{ℕ, zero, suc, _+_, _≤_, _<_, zero-le}
 use native.Mathlib.Nat.{add-zero}
@@ -9,8 +9,10 @@ use native.Mathlib.Numerals.{add-one}
 use native.Mathlib.Omega.{arith}
 use lib.ListN.{length, getD, take, set, length-append, take-append-drop}
 use lib.Seq.{take-suc, length-take-le}
+use Rattle.feed.specs.declared.Counts.{Counts}
+use Rattle.feed.specs.RowNumber.{NamedRow, rowsWith}
 use Rattle.text.specs.Text.{dottedText}
-use Rattle.text.specs.Program.{lineOf, runLines}
+use Rattle.text.specs.Program.{bytes, lineOf, nameLines, runLines}
 use Rattle.text.specs.Inside.Putting.{numberText, Fits, placed, Put}
 use Rattle.text.proofs.Putting.{first-fits, rest-fits, put-then, put-long, put-byte}
 
@@ -93,3 +95,22 @@ module _ (starts hops : List ℕ) (n i : ℕ) {from at : ℕ} {old mid : List �
   pub put-run : {r : ℕ} {new : List ℕ} → Put at (lineOf (dottedText (getD starts i 0)) (getD hops i 0)) r mid new
       → Put from (runLines (take (i + 1) starts) (take (i + 1) hops)) r old new
   put-run q = rw (add-one, next-lines) (put-then (runText starts hops i) next-fits p q)
+
+-- The lines of a table of row numbers: the first line has room where all have, the others behind it, and together they are all.
+module _ (r : NamedRow) (rs : List NamedRow) (c : Counts) {at : ℕ} {old : List ℕ} (f : Fits at (nameLines (r ∷ rs) c) old) where
+  pub first-name-fits : Fits at (lineOf (bytes (r .name)) (rowsWith (r .number) c)) old
+  unfolding nameLines
+  first-name-fits = first-fits (nameLines rs c) f
+
+  module _ {s : ℕ} {mid : List ℕ} (p : Put at (lineOf (bytes (r .name)) (rowsWith (r .number) c)) s old mid) where
+    pub rest-names-fit : Fits s (nameLines rs c) mid
+    unfolding nameLines
+    rest-names-fit = rest-fits (nameLines rs c) f p
+
+    pub put-names : {t : ℕ} {new : List ℕ} → Put s (nameLines rs c) t mid new → Put at (nameLines (r ∷ rs) c) t old new
+    unfolding nameLines
+    put-names q = put-then (nameLines rs c) f p q
+
+pub put-no-names : (c : Counts) (at : ℕ) (old : List ℕ) → Put at (nameLines [] c) at old old
+unfolding nameLines
+put-no-names c at old = put-none at old

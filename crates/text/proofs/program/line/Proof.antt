@@ -9,10 +9,6 @@ use Rattle.text.proofs.Lines.{bare-fits, put-space, number-fits, put-li
 use borrow.Author.Needs.{needs}
 use Rattle.text.proofs.program.line.Statement.{statement}
 use Rattle.text.proofs.program.line.Tie as tie
-use Rattle.text.proofs.program.line.Reads as reads
-use Rattle.text.proofs.program.line.Lts as lts
-use Rattle.text.proofs.program.text.Reads as text-reads
-use Rattle.text.proofs.put.number.Reads as number-reads
 
 text-requires : tie.Need-text-requires
 text-requires c κs =

@@ -5,10 +5,6 @@ use Rattle.text.proofs.Lines.{name-fits, number-fits, put-line}
 use borrow.Author.Needs.{needs}
 use Rattle.text.proofs.program.run.Statement.{statement}
 use Rattle.text.proofs.program.run.Tie as tie
-use Rattle.text.proofs.program.run.Reads as reads
-use Rattle.text.proofs.program.run.Lts as lts
-use Rattle.text.proofs.put.address.Reads as address-reads
-use Rattle.text.proofs.put.number.Reads as number-reads
 
 address-requires : tie.Need-address-requires
 address-requires c κs = name-fits (dottedText (c .before .before .args .start)) (c .before .before .args .hop) (c .before .before .pre)

@@ -11,9 +11,6 @@ use Rattle.text.specs.Inside.Putting.{Put}
 use Rattle.text.proofs.Lines.{put-none, run-fits, put-run}
 use Rattle.text.proofs.program.run_lines.Statement.{statement}
 use Rattle.text.proofs.program.run_lines.Tie as tie
-use Rattle.text.proofs.program.run_lines.Reads as reads
-use Rattle.text.proofs.program.run_lines.Lts as lts
-use Rattle.text.proofs.program.run.Reads as run-reads
 
 abbrev Inv-loop : tie.InvT-loop
 Inv-loop out₀ from count starts hops at₀ i₀ out at i =

@@ -12,8 +12,6 @@ use Rattle.text.specs.Inside.Putting.{Put}
 use Rattle.text.proofs.Lines.{put-none, put-next}
 use Rattle.text.proofs.program.text.Statement.{statement}
 use Rattle.text.proofs.program.text.Tie as tie
-use Rattle.text.proofs.program.text.Reads as reads
-use Rattle.text.proofs.program.text.Lts as lts
 
 abbrev Inv-loop : tie.InvT-loop
 Inv-loop out₀ at bytes i₀ out i = (i ≤ length bytes) × (length out ≡ length out₀) × Put at (take i bytes) (at + i) out₀ out
