@@ -5,10 +5,11 @@ use mathlib.Core.Path.{_≡_, refl, sym, ap, _∙_}
 use mathlib.Core.Logic.{_⊎_, ⊎-elim}
 use mathlib.Core.Bool.{true}
 use mathlib.Core.List.{List}
-use Prim.Native.Nat.{ℕ, _+_, _*_, _≤_}
+use Prim.Native.Nat.{ℕ, _≤_, _<_}
+use native.Mathlib.Nat.{zero-add}
 use native.Mathlib.Omega.{arith}
 use lib.ListN.{length, take}
-use borrow.Author.Tests.{le-ltb}
+use borrow.Author.Tests.{lt-ltb, le-ltb}
 use denote.Enum.Declared.{tagOf}
 use Rattle.ground.specs.Numbers.{done}
 use Rattle.ground.specs.Slots.{written}
@@ -20,8 +21,7 @@ use Rattle.routes.proofs.Columns.{length-rows}
 use Rattle.feed.specs.declared.Imported.{Imported}
 use Rattle.feed.specs.declared.ImportEnd.{ImportEnd}
 use Rattle.feed.specs.declared.ImportEnd.the-variants.{Done, ReportShort}
-use Rattle.feed.specs.RowNumber.{countsOf}
-use Rattle.feed.specs.Import.{ImportLent, rowNumbers, importAccepted, import, endNumber, importGave}
+use Rattle.feed.specs.Import.{ImportLent, importAccepted, import, endNumber, importGave}
 use Rattle.feed.proofs.Splitting.{rows-at-most}
 use Rattle.feed.proofs.Outcome.{import-long}
 use Rattle.feed.proofs.Promise.{left-is-imported, left-well-formed}
@@ -34,8 +34,9 @@ use Rattle.runs.specs.Inside.Rows.{buildRows}
 use Rattle.runs.proofs.Table.{table-of, runs-at-most}
 use Rattle.runs.proofs.TableOutcomes.{build-well}
 use Rattle.runs.proofs.WholeList.{in-keys, in-hops}
-use Rattle.text.specs.Program.{longestFeed, programRoom}
-use Rattle.text.specs.Inside.Answering.{Taken}
+use Rattle.text.specs.Program.{bytes, longestFeed, programRoom, programText, programGave, program}
+use Rattle.text.specs.Inside.Putting.{placed, Put}
+use Rattle.text.specs.Inside.Answering.{answerText, Taken}
 
 ended-done : (e : ImportEnd) → endNumber e ≡ done → e ≡ Done
 ended-done Done n = refl
@@ -110,8 +111,12 @@ module _ (count : ℕ) (keys hops starts rhops : List ℕ) (w : wellFormed count
 
     pub table-left : {n : ℕ} → b ≡ Runs n → TableLeft (rowsOf count keys hops) n starts′ rhops′
     table-left {n} e = record {
-      in-starts = omega (arith, count-is, ap length starts-left, length-written (runStarts rows) starts (omega (arith, runs-few)), runs-few);
-      in-hops = omega (arith, count-is, ap length hops-left, length-written (runHops rows) rhops (omega (arith, runs-few, paired)), runs-few);
+      in-starts =
+          let long = length-written (runStarts rows) starts (omega (arith, runs-few)) in
+          omega (arith, count-is, ap length starts-left, runs-few);
+      in-hops =
+          let long = length-written (runHops rows) rhops (omega (arith, runs-few, paired)) in
+          omega (arith, count-is, ap length hops-left, runs-few);
       starts-are = ap (take n) starts-left ∙ take-written (runStarts rows) starts n count-is;
       hops-are = ap (take n) hops-left ∙ take-written (runHops rows) rhops n (count-is ∙ sym paired);
     }
@@ -127,3 +132,23 @@ module _ (count : ℕ) (keys hops starts rhops : List ℕ) (w : wellFormed count
 
         hops-left : rhops′ ≡ written (runHops rows) rhops
         hops-left = ap (λ (o : BuildOutcome). o .hops) gave
+
+-- the program's text, by the length of the feed
+module _ (feed : List ℕ) where
+  pub long-program : longestFeed < length feed → programText feed ≡ bytes "feed too long\n"
+  unfolding programText
+  long-program l = rw (lt-ltb longestFeed (length feed) l)
+
+  pub short-program : length feed ≤ longestFeed → programText feed ≡ answerText feed
+  unfolding programText
+  short-program l = rw (le-ltb longestFeed (length feed) l)
+
+  -- the text at the buffer's front is what is promised
+  pub put-program : {text : List ℕ} {r : ℕ} {old new : List ℕ} → programText feed ≡ text → Put 0 text r old new
+      → programGave r new ≡ program feed old
+  unfolding program placed written
+  put-program {text} {r} {old} {new} e p =
+      rw e (same-outcome (p .after ∙ zero-add (length text)) (p .slots ∙ rw zero-add))
+    where
+      same-outcome : {n : ℕ} {buffer : List ℕ} → r ≡ n → new ≡ buffer → programGave r new ≡ programGave n buffer
+      same-outcome q q′ = cc

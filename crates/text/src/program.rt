@@ -13,10 +13,10 @@ ghost use Rattle.text.specs.Text.{dottedText};
 ghost use Rattle.text.specs.Program.{longestFeed, lineOf, nameLines, countLines, runLines, programGave, program};
 ghost use Rattle.text.specs.Inside.Putting.{Fits, Put};
 ghost use Rattle.text.specs.Inside.Answering.{tableLines, answerText, Taken};
-use runs::Built;
 use super::put::address;
 use super::put::number;
 use feed::Counts;
+use runs::Built;
 
 // Rule 13.1: the most bytes that a feed may have.
 pub const LONGEST_FEED: usize = 16384;

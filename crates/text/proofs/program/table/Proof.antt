@@ -12,10 +12,6 @@ use Rattle.text.proofs.Answering.{TableLeft, never-refused, table-left}
 use borrow.Author.Needs.{needs}
 use Rattle.text.proofs.program.table.Statement.{statement}
 use Rattle.text.proofs.program.table.Tie as tie
-use Rattle.text.proofs.program.table.Reads as reads
-use Rattle.text.proofs.program.table.Lts as lts
-use Rattle.runs.proofs.build.Reads as build-reads
-use Rattle.text.proofs.program.run_lines.Reads as run-lines-reads
 
 slice-aggregate-build : tie.Need-slice-aggregate-build
 slice-aggregate-build c = search needs

@@ -6,9 +6,6 @@ use Rattle.text.proofs.Answering.{import-taken}
 use borrow.Author.Needs.{needs}
 use Rattle.text.proofs.program.taken.Statement.{statement}
 use Rattle.text.proofs.program.taken.Tie as tie
-use Rattle.text.proofs.program.taken.Reads as reads
-use Rattle.text.proofs.program.taken.Lts as lts
-use Rattle.feed.proofs.import.Reads as import-reads
 
 slice-aggregate-import : tie.Need-slice-aggregate-import
 slice-aggregate-import c = search needs
