@@ -1,13 +1,11 @@
 -- How many bytes a text has: an address's, a row's and a list's, by its numbers; and how many it has at the most.
 -- Assumes nothing.
-use mathlib.Core.Path.{_≡_, refl, ap, _∙_}
-use mathlib.Core.Bool.{true}
-use mathlib.Core.List.{List, [], _∷_, _++_, append-assoc}
+use mathlib.Core.Path.{_≡_}
+use mathlib.Core.List.{List, [], _∷_}
 use Prim.Native.Nat.{ℕ, zero, suc, _+_, _*_, _/_, _%_, _≤_, _<_}
 use native.Mathlib.Omega.{arith}
-use lib.ListN.{length, length-append}
-use Rattle.cidr.specs.Prefix.{isPrefix}
-use Rattle.routes.specs.Row.{Row, row}
+use lib.ListN.{length, getD, length-append}
+use Rattle.routes.specs.Row.{row, rowsOf}
 use Rattle.text.specs.Text.{decimal, dottedText, rowText, textOf}
 use Rattle.text.proofs.Decimal.{digits-at-most}
 
@@ -42,3 +40,14 @@ row-at-most key hop net h =
       digits-at-most 1 (key % 64) (omega arith),
       digits-at-most 4 hop (omega arith),
     )
+
+pub text-at-most : (n : ℕ) (keys hops : List ℕ) → ((i : ℕ) → i < n → getD keys i 0 / 64 < 4294967296) → ((i : ℕ) → getD hops i 0 < 65536)
+    → length (textOf (rowsOf n keys hops)) ≤ 25 * n
+unfolding rowsOf textOf
+text-at-most zero keys hops nets small = omega arith
+text-at-most (suc n) [] hops nets small = omega arith
+text-at-most (suc n) (k ∷ keys) [] nets small = omega arith
+text-at-most (suc n) (k ∷ keys) (h ∷ hops) nets small =
+    let one = row-at-most k h (nets 0 (omega arith)) (small 0) in
+    let more = text-at-most n keys hops (λ i l. nets (suc i) (omega arith)) (λ i. small (suc i)) in
+    omega (arith, length-append (rowText (row k h)) (textOf (rowsOf n keys hops)))
