@@ -33,7 +33,7 @@ network-small count keys hops e i l =
     let rows = rowsOf count keys hops in
     let half = and-right (hopsGiven rows) (halfRows rows) (and-right (leb count (listRoom keys hops)) (goodRows rows) e) in
     let key = every-at (λ r. isPrefix (r .key)) count keys hops (and-left (prefixes rows) (ascending rows) half) i l
-        (omega (arith, in-keys count keys hops e)) (omega (arith, in-hops count keys hops e)) in
+    (omega (arith, in-keys count keys hops e)) (omega (arith, in-hops count keys hops e)) in
     let k = getD keys i 0 in
     ltb-true (network k) addresses (and-left (ltb (network k) addresses) _ (and-right (leb (lengthOf k) 32) _ key))
 

@@ -5,16 +5,15 @@ use mathlib.Core.Path.{_≡_, refl, _∙_}
 use mathlib.Core.Logic.{⊎-elim}
 use mathlib.Core.Bool.{Bool, true, not}
 use mathlib.Core.List.{List, [], _∷_, _++_, append-nil}
-use Prim.Native.Nat.{ℕ, zero, suc, _+_, _-_, _*_, _/_, _%_, _^_, _≤_, _<_}
-use native.Mathlib.Nat.{le-refl, pow-suc}
+use Prim.Native.Nat.{ℕ, zero, suc, _+_, _-_, _*_, _/_, _%_, _≤_, _<_}
+use native.Mathlib.Nat.{le-refl}
 use native.Mathlib.Omega.{arith}
-use lib.ListN.{length, length-append}
 use lib.Dec.{ltb}
 use borrow.Author.Tests.{ltb-true, ltb-false, le-leb}
 use Rattle.ground.proofs.Truth.{decided, and-both, not-true}
 use Rattle.feed.specs.Reading.{isDigit, digits, afterDigits, valueFrom}
 use Rattle.text.specs.Text.{decimal}
-use Rattle.text.proofs.Decimal.{decimal-small, decimal-step, digits-small, digits-step}
+use Rattle.text.proofs.Decimal.{decimal-small, decimal-step}
 
 -- what holds of one digit, and of one digit more behind those of a tenth, holds of every number's digits
 module _ (P : ℕ → List ℕ → Type 0) (one : (n : ℕ) → n < 10 → P n ((48 + n) ∷ []))
@@ -84,14 +83,3 @@ pub decimal-value : (n : ℕ) → valueFrom 0 (decimal n) ≡ n
 unfolding valueFrom
 decimal-value = by-digits (λ n ds. valueFrom 0 ds ≡ n) (λ n l. omega arith)
     (λ n l rec. value-snoc 0 (48 + n % 10) (decimal (n / 10)) ∙ omega arith)
-
--- how many there are: at least one, and at most suc k below 10 ^ suc k
-pub decimal-some : (n : ℕ) → 1 ≤ length (decimal n)
-decimal-some = by-digits (λ n ds. 1 ≤ length ds) (λ n l. omega arith) (λ n l rec. simp length-append (omega arith))
-
-pub decimal-few : (k n : ℕ) → n < 10 ^ suc k → length (decimal n) ≤ suc k
-decimal-few zero n l = omega (arith, digits-small n (omega arith))
-decimal-few (suc k) n l = ⊎-elim
-    (λ e. omega (arith, digits-small n (ltb-true n 10 e)))
-    (λ e. omega (arith, digits-step n (ltb-false n 10 e), decimal-few k (n / 10) (omega (arith, pow-suc 10 (suc k)))))
-    (decided (ltb n 10))

@@ -18,7 +18,8 @@ use Rattle.feed.specs.Rows.{LF, dot, slash, space}
 use Rattle.feed.specs.Reading.{isDigit, digits, afterDigits, isNumber, begins, Field, field, form, before, fieldsOf}
 use Rattle.feed.specs.Reading.{valueFrom, inPlaces, valuesOf, outOfRange, hasHostBits, good, valueFault, judgedValues, judged, readRow}
 use Rattle.text.specs.Text.{decimal, dottedText, rowText}
-use Rattle.text.proofs.DecimalReads.{decimal-read, decimal-after, decimal-value, decimal-some, decimal-few}
+use Rattle.text.proofs.Decimal.{one-digit, digits-at-most}
+use Rattle.text.proofs.DecimalReads.{decimal-read, decimal-after, decimal-value}
 
 -- a number with the mark after it
 abbrev marked : ℕ → ℕ → List ℕ → List ℕ
@@ -52,7 +53,7 @@ module _ (m mark n : ℕ) (fs : List Field) (rest : List ℕ) (e : isDigit mark 
   of-form : (isNumber (suc m) (digits (marked n mark rest)) && begins mark (afterDigits (marked n mark rest))) ≡ true
   of-form =
       rw (decimal-read n (mark ∷ rest) (ap not e), decimal-after n (mark ∷ rest) (ap not e))
-      (and-both (and-both (le-leb 1 (length (decimal n)) (decimal-some n)) (le-leb (length (decimal n)) (suc m) (decimal-few m n l)))
+      (and-both (and-both (le-leb 1 (length (decimal n)) (one-digit n)) (le-leb (length (decimal n)) (suc m) (digits-at-most m n l)))
       (eq-eqb mark mark refl))
 
   field-read : fieldsOf (field (suc m) mark ∷ fs) (marked n mark rest) ≡ before (decimal n) (fieldsOf fs rest)
@@ -65,7 +66,7 @@ unfolding fieldsOf
 hop-read n l =
     let read : digits (decimal n) ≡ decimal n = rw append-nil at (decimal-read n [] refl) in
     let after : afterDigits (decimal n) ≡ [] = rw append-nil at (decimal-after n [] refl) in
-    rw (read, after, le-leb 1 (length (decimal n)) (decimal-some n), le-leb (length (decimal n)) 5 (decimal-few 4 n (omega arith)))
+    rw (read, after, le-leb 1 (length (decimal n)) (one-digit n), le-leb (length (decimal n)) 5 (digits-at-most 4 n (omega arith)))
 
 -- the values of the numbers' digits are the numbers
 values-back : (ns : List ℕ) → map (valueFrom 0) (map decimal ns) ≡ ns

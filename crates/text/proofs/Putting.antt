@@ -90,7 +90,6 @@ placed-byte at text old v l =
     long : length front ≡ at + length text
     long = simp (length-append, length-take) (omega arith)
 
-
 -- Texts put one behind the other are one text. Where the whole has room, so has its first part, and the rest has room behind that.
 pub first-fits : {at : ℕ} {text slots : List ℕ} (more : List ℕ) → Fits at (text ++ more) slots → Fits at text slots
 first-fits {text = text} more f = record { room = omega (arith, f .room, length-append text more) }

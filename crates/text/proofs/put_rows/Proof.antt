@@ -39,7 +39,7 @@ loop-less : tie.Need-loop-less Inv-loop μ-loop
 loop-less c = omega arith
 
 loop-again : tie.Need-loop-again Inv-loop μ-loop
-loop-again c = 
+loop-again c =
     let turn = c .before .before .before .before .before .before .before in
     putting-next (turn .before .before .before .before .pre .0) (turn .loop .inv) (omega arith) (c .before .before .row .ensures)
 

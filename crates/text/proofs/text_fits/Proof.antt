@@ -18,7 +18,7 @@ returns : tie.Need-returns
 returns c =
     let st = c .before .before .before in
     let most = text-at-most (st .args .count) (st .args .keys .now) (st .args .hops .now) (network-small _ _ _ (st .pre))
-        (λ i. omega (arith, c .before .shared-slice-known2 .given i)) in
+    (λ i. omega (arith, c .before .shared-slice-known2 .given i)) in
     sym (le-leb (length (textOf (rowsOf (st .args .count) (st .args .keys .now) (st .args .hops .now)))) (st .args .bytes) (omega arith))
 
 text-length-requires : tie.Need-text-length-requires

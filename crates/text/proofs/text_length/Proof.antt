@@ -33,7 +33,7 @@ of-row-requires : tie.Need-of-row-requires Inv-loop μ-loop
 of-row-requires c κs = let st = c .before .before .before .before .before .before in network-small _ _ _ (st .pre) _ (omega arith)
 
 add-bytes : tie.Need-add-bytes Inv-loop μ-loop
-add-bytes c = 
+add-bytes c =
     let turn = c .before .before .before .before in
     omega (arith, in-top _ _ _ (turn .before .before .before .pre), turn .loop .inv .few, turn .loop .inv .within, c .of-row .ensures .1)
 

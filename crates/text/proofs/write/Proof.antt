@@ -43,7 +43,7 @@ same-length : tie.Need-same-length
 same-length c = search needs
 
 returns-3 : tie.Need-returns-3
-returns-3 c = 
+returns-3 c =
     let called = c .before .before in
     let branch = called .before .before in
     write-done _ _ (ok (branch .before .before)) (fits branch) (called .put-rows .ensures)

@@ -40,7 +40,7 @@ same-length-2 : tie.Need-same-length-2
 same-length-2 c = search needs
 
 returns-2 : tie.Need-returns-2
-returns-2 c = 
+returns-2 c =
     let st = c .before .before .before .before .before in
     wrote-digit (st .args .n) (omega arith) (st .pre .1) (c .digit3 .ensures)
     (wrote-first (st .args .n / 10) (omega arith) (omega (arith, digits-at-least 1 (st .args .n) (omega arith), digits-small (st .args .n / 10) (omega arith))) (c .before .digit2 .ensures))
