@@ -6,7 +6,6 @@ use mathlib.Core.Logic.{_⊎_, ⊎-elim}
 use mathlib.Core.Bool.{true}
 use mathlib.Core.List.{List}
 use Prim.Native.Nat.{ℕ, _≤_, _<_}
-use native.Mathlib.Nat.{zero-add}
 use native.Mathlib.Omega.{arith}
 use lib.ListN.{length, take}
 use borrow.Author.Tests.{lt-ltb, le-ltb}
@@ -35,8 +34,9 @@ use Rattle.runs.proofs.Table.{table-of, runs-at-most}
 use Rattle.runs.proofs.TableOutcomes.{build-well}
 use Rattle.runs.proofs.WholeList.{in-keys, in-hops}
 use Rattle.text.specs.Program.{bytes, longestFeed, programRoom, programText, programGave, program}
-use Rattle.text.specs.Inside.Putting.{placed, Put}
+use Rattle.text.specs.Inside.Putting.{Put}
 use Rattle.text.specs.Inside.Answering.{answerText, Taken}
+use Rattle.text.proofs.Putting.{put-front}
 
 ended-done : (e : ImportEnd) → endNumber e ≡ done → e ≡ Done
 ended-done Done n = refl
@@ -133,6 +133,9 @@ module _ (count : ℕ) (keys hops starts rhops : List ℕ) (w : wellFormed count
         hops-left : rhops′ ≡ written (runHops rows) rhops
         hops-left = ap (λ (o : BuildOutcome). o .hops) gave
 
+same-outcome : {n n′ : ℕ} {buffer buffer′ : List ℕ} → n ≡ n′ → buffer ≡ buffer′ → programGave n buffer ≡ programGave n′ buffer′
+same-outcome e e′ = cc
+
 -- the program's text, by the length of the feed
 module _ (feed : List ℕ) where
   pub long-program : longestFeed < length feed → programText feed ≡ bytes "feed too long\n"
@@ -146,9 +149,5 @@ module _ (feed : List ℕ) where
   -- the text at the buffer's front is what is promised
   pub put-program : {text : List ℕ} {r : ℕ} {old new : List ℕ} → programText feed ≡ text → Put 0 text r old new
       → programGave r new ≡ program feed old
-  unfolding program placed written
-  put-program {text} {r} {old} {new} e p =
-      rw e (same-outcome (p .after ∙ zero-add (length text)) (p .slots ∙ rw zero-add))
-    where
-      same-outcome : {n : ℕ} {buffer : List ℕ} → r ≡ n → new ≡ buffer → programGave r new ≡ programGave n buffer
-      same-outcome q q′ = cc
+  unfolding program
+  put-program e p = rw e (same-outcome (put-front p .bytes) (put-front p .slots))

@@ -6,7 +6,7 @@ use mathlib.Core.Logic.{⊎-elim}
 use mathlib.Core.Bool.{Bool, true, false}
 use mathlib.Core.List.{List, [], _∷_, _++_}
 use Prim.Native.Nat.{ℕ, zero, suc, _+_, _*_, _/_, _%_, _^_, _≤_, _<_}
-use native.Mathlib.Nat.{not-suc-le-zero, pow-suc}
+use native.Mathlib.Nat.{not-suc-le-zero, pow-suc, one-le-pow}
 use native.Mathlib.Omega.{arith}
 use lib.ListN.{length, length-append}
 use lib.Dec.{ltb}
@@ -59,13 +59,16 @@ pub digits-step : (n : ℕ) → 10 ≤ n → length (decimal n) ≡ length (deci
 digits-step n l = ap length (decimal-step n l) ∙ length-append (decimal (n / 10)) _
 
 pub one-digit : (n : ℕ) → 1 ≤ length (decimal n)
-one-digit n = ⊎-elim (λ e. omega (arith, digits-small n (ltb-true n 10 e))) (λ e. omega (arith, digits-step n (ltb-false n 10 e))) (decided (ltb n 10))
+one-digit n =
+    ⊎-elim (λ e. omega (arith, digits-small n (ltb-true n 10 e))) (λ e. omega (arith, digits-step n (ltb-false n 10 e))) (decided (ltb n 10))
 
-pub two-digits : (n : ℕ) → 10 ≤ n → 2 ≤ length (decimal n)
-two-digits n l = omega (arith, digits-step n l, one-digit (n / 10))
-
-pub three-digits : (n : ℕ) → 100 ≤ n → 3 ≤ length (decimal n)
-three-digits n l = omega (arith, digits-step n (omega arith), two-digits (n / 10) (omega arith))
+-- a number that reaches a power of 10 has more digits than that has zeros, and one below a power has at most as many
+pub digits-at-least : (k n : ℕ) → 10 ^ k ≤ n → suc k ≤ length (decimal n)
+digits-at-least zero n l = one-digit n
+digits-at-least (suc k) n l =
+    let tens = pow-suc 10 k in
+    let some = one-le-pow k 10 (omega arith) in
+    omega (arith, digits-step n (omega arith), digits-at-least k (n / 10) (omega arith))
 
 pub digits-at-most : (k n : ℕ) → n < 10 ^ suc k → length (decimal n) ≤ suc k
 digits-at-most zero n l = omega (arith, digits-small n l)

@@ -5,7 +5,7 @@
 use mathlib.Core.Path.{_≡_, refl}
 use mathlib.Core.Bool.{Bool, true, false, cond}
 use mathlib.Core.List.{List, [], _∷_, _++_}
-use Prim.Native.Nat.{ℕ, suc, _+_, _*_, _/_, _%_, _≤_, _<_}
+use Prim.Native.Nat.{ℕ, suc, _+_, _*_, _≤_, _<_}
 use native.Mathlib.Omega.{arith}
 use lib.ListN.{length, getD, length-append}
 use lib.Dec.{ltb}
@@ -27,23 +27,12 @@ use Rattle.runs.proofs.Table.{table-of, runs-at-most}
 use Rattle.text.specs.Text.{decimal, dottedText}
 use Rattle.text.specs.Program.{bytes, longestFeed, programRoom, lineOf, nameLines, countLines, runLines, programText}
 use Rattle.text.proofs.Decimal.{digits-at-most}
+use Rattle.text.proofs.Sizes.{dotted-at-most}
 
 -- a line is its name, its number, a space and an LF
 pub line-length : (name : List ℕ) (n : ℕ) → length (lineOf name n) ≡ length name + length (decimal n) + 2
 unfolding lineOf
 line-length name n = simp length-append (omega arith)
-
--- an address has four numbers of at most three digits
-pub dotted-at-most : (a : ℕ) → a < addresses → length (dottedText a) ≤ 15
-unfolding dottedText
-dotted-at-most a l =
-    simp length-append (omega (
-      arith,
-      digits-at-most 2 (a / 16777216) (omega arith),
-      digits-at-most 2 (a / 65536 % 256) (omega arith),
-      digits-at-most 2 (a / 256 % 256) (omega arith),
-      digits-at-most 2 (a % 256) (omega arith),
-    ))
 
 -- Counts of at most five digits: 39 bytes of names, and 7 for each of the seven lines.
 module _ (c : Counts) (rows : c .rows ≤ longestFeed) (of : (n : ℕ) → rowsWith n c ≤ c .rows) where

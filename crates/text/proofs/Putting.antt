@@ -3,8 +3,9 @@
 use mathlib.Core.Path.{_≡_, refl, sym, ap, _∙_}
 use mathlib.Core.List.{List, [], _∷_, _++_, append-assoc, append-nil}
 use Prim.Native.Nat.{ℕ, suc, _+_, _-_, _/_, _%_, _≤_, _<_}
+use native.Mathlib.Nat.{add-zero, zero-add}
 use native.Mathlib.Omega.{arith}
-use lib.ListN.{length, take, drop, set, length-append, length-take, length-drop, drop-of-length-le}
+use lib.ListN.{length, take, drop, set, length-append, length-take, length-drop, drop-of-length-le, take-append-drop}
 use lib.Seq.{take-at, drop-at, drop-drop, drop-append-add, drop-cons, set-at, take-all}
 use Rattle.ground.specs.Slots.{written}
 use Rattle.ground.proofs.Slots.{length-written, written-more}
@@ -89,7 +90,6 @@ placed-byte at text old v l =
     long : length front ≡ at + length text
     long = simp (length-append, length-take) (omega arith)
 
-
 -- Texts put one behind the other are one text. Where the whole has room, so has its first part, and the rest has room behind that.
 pub first-fits : {at : ℕ} {text slots : List ℕ} (more : List ℕ) → Fits at (text ++ more) slots → Fits at text slots
 first-fits {text = text} more f = record { room = omega (arith, f .room, length-append text more) }
@@ -105,6 +105,15 @@ module _ {at r : ℕ} {text old mid : List ℕ} (more : List ℕ) (f : Fits at (
     after = omega (arith, p .after, q .after, length-append text more);
     slots = q .slots ∙ rw (p .slots, p .after) (placed-then at text old more (omega (arith, f .room)));
   }
+
+-- nothing put at a place leaves all as it was, and what is put at place 0 is written at the front
+pub put-none : (at : ℕ) (out : List ℕ) → Put at [] at out out
+unfolding placed
+put-none at out = record { after = omega arith; slots = rw (add-zero, take-append-drop) }
+
+pub put-front : {r : ℕ} {text old new : List ℕ} → Put 0 text r old new → Wrote text r old new
+unfolding placed written
+put-front p = record { bytes = omega (arith, p .after); slots = p .slots ∙ rw zero-add }
 
 pub put-rest : {at k r : ℕ} {text old part : List ℕ} → at ≤ length old → k ≡ length old - at → Wrote text r (take k (drop at old)) part
     → Put at text (at + r) old (take at old ++ (part ++ drop k (drop at old)))

@@ -8,6 +8,7 @@ ghost use mathlib.Core.Path.{_≡_};
 ghost use mathlib.Core.Bool.{true};
 ghost use Prim.Native.Nat.{_≤_};
 ghost use lib.ListN.{length};
+ghost use lib.Dec.{leb};
 ghost use Rattle.routes.specs.Row.{listLent, rowsOf};
 ghost use Rattle.routes.specs.WellFormed.{wellFormed};
 ghost use Rattle.text.specs.Text.{textOf, writeGave, write};
@@ -34,6 +35,20 @@ fn text_length(count: usize, keys: &[u64], hops: &[u16]) -> usize
     bytes
 }
 
+// The most bytes that a row's text has: 255.255.255.255/32 65535 and its LF.
+pub const ROW_BYTES: usize = 25;
+
+// Whether the text of a list fits so many bytes. Where they are enough for any rows nothing is measured.
+fn text_fits(count: usize, keys: &[u64], hops: &[u16], bytes: usize) -> bool
+    requires { ⌜ wellFormed count (now keys) (now hops) ≡ true ⌝ }
+    ensures { λ r. ⌜ r ≡ leb (length (textOf (rowsOf count (now (keys .entry)) (now (hops .entry))))) bytes ⌝ }
+{
+    if count <= bytes / ROW_BYTES {
+        return true;
+    }
+    text_length(count, keys, hops) <= bytes
+}
+
 // The text of a list at the front of a slice that has room for it.
 fn put_rows(count: usize, keys: &[u64], hops: &[u16], out: &mut [u8]) -> usize
     requires { ⌜ wellFormed count (now keys) (now hops) ≡ true ⌝ }
@@ -58,7 +73,7 @@ pub fn write(count: usize, keys: &[u64], hops: &[u16], out: &mut [u8]) -> Writte
     if !routes::list_ok(count, keys, hops, false) {
         return Written::IllFormed;
     }
-    if out.len() < text_length(count, keys, hops) {
+    if !text_fits(count, keys, hops, out.len()) {
         return Written::NoRoom;
     }
     Written::Text(put_rows(count, keys, hops, out))

@@ -5,21 +5,25 @@ ghost use lib.ListN.{length};
 ghost use Rattle.cidr.specs.Prefix.{addresses};
 ghost use Rattle.routes.specs.Row.{row};
 ghost use Rattle.text.specs.Text.{decimal, dottedText, rowText};
-ghost use Rattle.text.specs.Inside.Putting.{oneFrom};
-
-// 1 from a bound on, and 0 below it.
-fn one_from(bound: u64, n: u64) -> usize
-    ensures { λ r. ⌜ r ≡ oneFrom bound n ⌝ }
-{
-    if n < bound { 0 } else { 1 }
-}
 
 // A number in decimal: of an octet, a length, a hop.
 fn of_number(n: u64) -> usize
     requires { ⌜ n < 100000 ⌝ }
     ensures { λ r. ⌜ (r ≡ length (decimal n)) × (r ≤ 5) ⌝ }
 {
-    1 + one_from(10, n) + one_from(100, n) + one_from(1000, n) + one_from(10000, n)
+    if n < 10 {
+        return 1;
+    }
+    if n < 100 {
+        return 2;
+    }
+    if n < 1000 {
+        return 3;
+    }
+    if n < 10000 {
+        return 4;
+    }
+    5
 }
 
 // An address as a.b.c.d.

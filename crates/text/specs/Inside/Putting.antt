@@ -1,11 +1,9 @@
--- The texts that are put together to make a row or a line, what a function that puts a text into a slice returns and leaves, and how the length of a number's text is counted.
+-- The texts that are put together to make a row or a line, and what a function that puts a text into a slice returns and leaves.
 -- Assumes nothing.
 use mathlib.Core.Path.{_≡_}
-use mathlib.Core.Bool.{cond}
 use mathlib.Core.List.{List, [], _∷_, _++_}
 use Prim.Native.Nat.{ℕ, _+_, _≤_}
 use lib.ListN.{length, take, drop}
-use lib.Dec.{ltb}
 use Rattle.ground.specs.Slots.{written}
 use Rattle.text.specs.Text.{decimal, dottedText}
 
@@ -33,7 +31,3 @@ placed at text old = take at old ++ (text ++ drop (at + length text) old)
 pub record Put (at : ℕ) (text : List ℕ) (r : ℕ) (old new : List ℕ) : Type 0 where
   pub after : r ≡ at + length text
   pub slots : new ≡ placed at text old
-
--- 1 from a bound on, and 0 below it
-abbrev pub oneFrom : ℕ → ℕ → ℕ
-oneFrom bound n = cond (ltb n bound) 0 1

@@ -5,7 +5,7 @@ use Rattle.feed.specs.RowNumber.{named, rowTaken, reasons, rowNames}
 use Rattle.text.specs.Program.{nameLines, countLines}
 use Rattle.text.specs.Inside.Putting.{Fits}
 use Rattle.text.proofs.Putting.{first-fits, rest-fits, put-then}
-use Rattle.text.proofs.Lines.{first-name-fits, rest-names-fit, put-names}
+use Rattle.text.proofs.ProgramLines.{first-name-fits, rest-names-fit, put-names}
 use borrow.Author.Needs.{needs}
 use Rattle.text.proofs.program.counts.Statement.{statement}
 use Rattle.text.proofs.program.counts.Tie as tie

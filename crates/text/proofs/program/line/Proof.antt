@@ -5,7 +5,7 @@ use mathlib.Core.List.{[], _∷_, _++_}
 use Prim.Native.Nat.{_+_, _<_}
 use lib.ListN.{length, set, length-set}
 use Rattle.text.specs.Inside.Putting.{Put}
-use Rattle.text.proofs.Lines.{bare-fits, put-space, number-fits, put-line}
+use Rattle.text.proofs.ProgramLines.{bare-fits, put-space, number-fits, put-line}
 use borrow.Author.Needs.{needs}
 use Rattle.text.proofs.program.line.Statement.{statement}
 use Rattle.text.proofs.program.line.Tie as tie

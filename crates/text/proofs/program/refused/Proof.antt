@@ -5,7 +5,7 @@ use native.Mathlib.Omega.{arith}
 use Rattle.feed.specs.RowNumber.{NamedRow, named, rowShape, rowRange, rowHostBits, rowRepeat, rowNoRoom}
 use Rattle.text.specs.Program.{nameLines}
 use Rattle.text.specs.Inside.Putting.{Fits}
-use Rattle.text.proofs.Lines.{first-name-fits, rest-names-fit, put-names, put-no-names}
+use Rattle.text.proofs.ProgramLines.{first-name-fits, rest-names-fit, put-names, put-no-names}
 use borrow.Author.Needs.{needs}
 use Rattle.text.proofs.program.refused.Statement.{statement}
 use Rattle.text.proofs.program.refused.Tie as tie

@@ -1,7 +1,7 @@
 -- `text::program::run` meets its contract: the start with its space, and the hop with its LF behind it.
 -- Assumes nothing.
 use Rattle.text.specs.Text.{dottedText}
-use Rattle.text.proofs.Lines.{name-fits, number-fits, put-line}
+use Rattle.text.proofs.ProgramLines.{name-fits, number-fits, put-line}
 use borrow.Author.Needs.{needs}
 use Rattle.text.proofs.program.run.Statement.{statement}
 use Rattle.text.proofs.program.run.Tie as tie

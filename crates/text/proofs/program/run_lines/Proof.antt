@@ -8,7 +8,8 @@ use lib.ListN.{length, take}
 use borrow.Author.Needs.{needs}
 use Rattle.text.specs.Program.{runLines}
 use Rattle.text.specs.Inside.Putting.{Put}
-use Rattle.text.proofs.Lines.{put-none, run-fits, put-run}
+use Rattle.text.proofs.Putting.{put-none}
+use Rattle.text.proofs.ProgramLines.{run-fits, put-run}
 use Rattle.text.proofs.program.run_lines.Statement.{statement}
 use Rattle.text.proofs.program.run_lines.Tie as tie
 

@@ -9,7 +9,8 @@ use lib.ListN.{length, take, length-set}
 use lib.Seq.{take-all}
 use borrow.Author.Needs.{needs}
 use Rattle.text.specs.Inside.Putting.{Put}
-use Rattle.text.proofs.Lines.{put-none, put-next}
+use Rattle.text.proofs.Putting.{put-none}
+use Rattle.text.proofs.ProgramLines.{put-next}
 use Rattle.text.proofs.program.text.Statement.{statement}
 use Rattle.text.proofs.program.text.Tie as tie
 

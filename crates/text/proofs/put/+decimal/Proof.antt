@@ -83,7 +83,7 @@ decimal-slice-write-out : (t : ℕ) → decimal-lts.Need-slice-write-out (
   digit-reads.Asked,
   digit-reads.Learnt,
 ) (decimal-at t) decimal.Post
-decimal-slice-write-out t c = 
+decimal-slice-write-out t c =
     let st = c .before .before .before .before .before .before .before in
     byte-fits (c .before .before .before .decimal .ensures) (omega (arith, st .pre .1, digits-step (st .args .n) (omega arith)))
 

@@ -26,7 +26,7 @@ part-decimal-end : tie.Need-part-decimal-end
 part-decimal-end c = search needs
 
 decimal-requires : tie.Need-decimal-requires
-decimal-requires c κs = 
+decimal-requires c κs =
     let st = c .before .before in
     simp (length-take, length-drop) (omega (arith, st .pre .room, length-append (decimal (st .args .n)) (st .args .mark ∷ [])))
 

@@ -4,7 +4,7 @@ use Prim.Native.Nat.{_/_}
 use native.Mathlib.Omega.{arith}
 use lib.ListN.{length-set}
 use borrow.Author.Needs.{needs}
-use Rattle.text.proofs.Decimal.{digits-small, digits-step, one-digit, two-digits, three-digits}
+use Rattle.text.proofs.Decimal.{digits-small, digits-step, one-digit, digits-at-least}
 use Rattle.text.proofs.Putting.{wrote-first, wrote-digit}
 use Rattle.text.proofs.put.short.Statement.{statement}
 use Rattle.text.proofs.put.short.Tie as tie
@@ -34,16 +34,16 @@ digit-requires-3 : tie.Need-digit-requires-3
 digit-requires-3 c κs = search needs
 
 slice-write-out-3 : tie.Need-slice-write-out-3
-slice-write-out-3 c = let st = c .before .before .before .before .before in simp length-set (omega (arith, two-digits (st .args .n) (omega arith)))
+slice-write-out-3 c = let st = c .before .before .before .before .before in simp length-set (omega (arith, digits-at-least 1 (st .args .n) (omega arith)))
 
 same-length-2 : tie.Need-same-length-2
 same-length-2 c = search needs
 
 returns-2 : tie.Need-returns-2
-returns-2 c = 
+returns-2 c =
     let st = c .before .before .before .before .before in
     wrote-digit (st .args .n) (omega arith) (st .pre .1) (c .digit3 .ensures)
-    (wrote-first (st .args .n / 10) (omega arith) (omega (arith, two-digits (st .args .n) (omega arith), digits-small (st .args .n / 10) (omega arith))) (c .before .digit2 .ensures))
+    (wrote-first (st .args .n / 10) (omega arith) (omega (arith, digits-at-least 1 (st .args .n) (omega arith), digits-small (st .args .n / 10) (omega arith))) (c .before .digit2 .ensures))
 
 digit-requires-4 : tie.Need-digit-requires-4
 digit-requires-4 c κs = search needs
@@ -55,13 +55,13 @@ digit-requires-5 : tie.Need-digit-requires-5
 digit-requires-5 c κs = search needs
 
 slice-write-out-5 : tie.Need-slice-write-out-5
-slice-write-out-5 c = let st = c .before .before .before .before .before in simp length-set (omega (arith, two-digits (st .args .n) (omega arith)))
+slice-write-out-5 c = let st = c .before .before .before .before .before in simp length-set (omega (arith, digits-at-least 1 (st .args .n) (omega arith)))
 
 digit-requires-6 : tie.Need-digit-requires-6
 digit-requires-6 c κs = search needs
 
 slice-write-out-6 : tie.Need-slice-write-out-6
-slice-write-out-6 c = let st = c .before .before .before .before .before .before in simp length-set (omega (arith, three-digits (st .args .n) (omega arith)))
+slice-write-out-6 c = let st = c .before .before .before .before .before .before in simp length-set (omega (arith, digits-at-least 2 (st .args .n) (omega arith)))
 
 same-length-3 : tie.Need-same-length-3
 same-length-3 c = search needs
@@ -70,7 +70,7 @@ returns-3 : tie.Need-returns-3
 returns-3 c =
     let st = c .before .before .before .before .before .before in
     let n = st .args .n in
-    let room = three-digits n (omega arith) in
+    let room = digits-at-least 2 n (omega arith) in
     wrote-digit n (omega arith) (st .pre .1) (c .digit6 .ensures)
     (wrote-digit (n / 10) (omega arith) (omega (arith, room, digits-step (n / 10) (omega arith), digits-small (n / 10 / 10) (omega arith))) (c .before .digit5 .ensures)
     (wrote-first (n / 10 / 10) (omega arith) (omega (arith, room, digits-small (n / 10 / 10) (omega arith))) (omega (arith, c .before .before .digit4 .ensures))))
