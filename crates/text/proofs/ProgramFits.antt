@@ -2,14 +2,15 @@
 -- feed: five digits, which with the seven names make 88 bytes. 1,024 rows make at most 2,049 runs, and a run's line has at most 22 bytes:
 -- 15 for the start, 5 for the hop, a space and an LF.
 -- Assumes nothing.
-use mathlib.Core.Path.{_≡_, refl}
+use mathlib.Core.Path.{_≡_, refl, ap}
 use mathlib.Core.Bool.{Bool, true, false, cond}
 use mathlib.Core.List.{List, [], _∷_, _++_}
 use Prim.Native.Nat.{ℕ, suc, _+_, _*_, _≤_, _<_}
 use native.Mathlib.Omega.{arith}
-use lib.ListN.{length, getD, length-append}
+use lib.ListN.{length, getD, drop, length-append}
 use lib.Dec.{ltb}
 use borrow.Author.Tests.{ltb-false}
+use Rattle.ground.specs.Slots.{written}
 use Rattle.ground.proofs.Map.{getD-map}
 use Rattle.cidr.specs.Prefix.{addresses}
 use Rattle.routes.specs.Row.{Row}
@@ -26,6 +27,7 @@ use Rattle.runs.specs.Table.{runStarts, runHops, startsOf, runHopsOf}
 use Rattle.runs.proofs.Table.{table-of, runs-at-most}
 use Rattle.text.specs.Text.{decimal, dottedText}
 use Rattle.text.specs.Program.{bytes, longestFeed, programRoom, lineOf, nameLines, countLines, runLines, programText}
+use Rattle.text.specs.Program.{ProgramOutcome, programGave, program}
 use Rattle.text.proofs.Decimal.{digits-at-most}
 use Rattle.text.proofs.Sizes.{dotted-at-most}
 
@@ -108,3 +110,11 @@ module _ (feed : List ℕ) where
           → length (cond b (bytes "feed too long\n") (countLines counts ++ runLines (runStarts list) (runHops list))) ≤ 45166
       go true e = omega arith
       go false e = answer-at-most (ltb-false longestFeed (length feed) e)
+
+  -- a caller of `program_text` may take as many bytes of the buffer as it returned
+  pub program-within : (n : ℕ) (out buffer : List ℕ) → programGave n out ≡ program feed buffer → n ≤ length out
+  unfolding program written
+  program-within n out buffer e =
+      let count = ap (λ (o : ProgramOutcome). o .length) e in
+      let left = ap (λ (o : ProgramOutcome). length (o .buffer)) e in
+      omega (arith, length-append (programText feed) (drop (length (programText feed)) buffer))
