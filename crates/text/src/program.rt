@@ -2,13 +2,11 @@
 // Texts are put one behind the other at places of a buffer, as in `put`, and the whole always has room.
 ghost use mathlib.Core.Path.{_≡_};
 ghost use mathlib.Core.Bool.{true};
-ghost use mathlib.Core.List.{_++_};
 ghost use Prim.Native.Nat.{_≤_, _<_};
 ghost use lib.ListN.{length, take};
 ghost use Rattle.routes.specs.Row.{rowsOf};
 ghost use Rattle.routes.specs.WellFormed.{wellFormed};
 ghost use Rattle.feed.specs.RowNumber.{reasons, rowNames, rowsWith};
-ghost use Rattle.runs.specs.Table.{runStarts, runHops};
 ghost use Rattle.text.specs.Text.{dottedText};
 ghost use Rattle.text.specs.Program.{longestFeed, lineOf, nameLines, countLines, runLines, programGave, program};
 ghost use Rattle.text.specs.Inside.Putting.{Fits, Put};
