@@ -14,6 +14,9 @@ uint64_t c_build(size_t count, const uint64_t *keys, size_t keys_length, const u
                  size_t starts_length, uint16_t *run_hops, size_t run_hops_length);
 struct whelk_counts c_import(const uint8_t *feed, size_t feed_length, uint64_t *keys, size_t keys_length, uint16_t *hops, size_t hops_length,
                              uint8_t *report, size_t report_length);
+typedef uint64_t writing(size_t count, const uint64_t *keys, size_t keys_length, const uint16_t *hops, size_t hops_length, uint8_t *buffer,
+                         size_t buffer_length);
+writing c_write, c_write_unchecked, c_write_by_libc;
 uint32_t c_packed_lookup(uint32_t width, const uint16_t *words, size_t words_length, const uint16_t *bases, size_t bases_length,
                          const uint16_t *hops, size_t hops_length, uint32_t address);
 typedef struct whelk_packed packing(uint16_t q, size_t count, const uint64_t *keys, size_t keys_length, const uint16_t *hops,

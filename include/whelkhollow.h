@@ -61,6 +61,22 @@ struct whelk_counts {
 struct whelk_counts whelk_import(const uint8_t *feed, size_t feed_length, uint64_t *keys, size_t keys_length, uint16_t *hops,
                                  size_t hops_length, uint8_t *report, size_t report_length);
 
+/* Of what a write returned: its number, and how many bytes the text has. */
+#define WHELK_WRITE_NUMBER(wrote) ((unsigned)((wrote) >> 32))
+#define WHELK_BYTES(wrote) ((size_t)((wrote)&4294967295u))
+
+/* A row is written with this many bytes at the most: `255.255.255.255/32 65535` and its LF. `0.0.0.0/0 1` has the fewest, 12. */
+#define WHELK_ROW_BYTES 25
+
+/* Writes a list as text: each row as `a.b.c.d/len hop` with an LF behind it, in the list's order, numbers without zeros in front. An import of
+   the text that is lent a slot for each row leaves the same list.
+   buffer gets the text from its front, and bytes past it stay as they were. No zero byte is put behind it. Lend WHELK_ROW_BYTES x count bytes;
+   that is always enough.
+   Returns 4,294,967,296 x number + length of the text. The number is 0, 11 if the list is ill-formed, or 13 if the text is longer than the
+   buffer. */
+uint64_t whelk_write(size_t count, const uint64_t *keys, size_t keys_length, const uint16_t *hops, size_t hops_length, uint8_t *buffer,
+                     size_t buffer_length);
+
 /* Of what a build returned: its number, and the count of runs. */
 #define WHELK_BUILD_NUMBER(built) ((unsigned)((built) >> 32))
 #define WHELK_RUNS(built) ((size_t)((built)&4294967295u))

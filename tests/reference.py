@@ -1,6 +1,7 @@
 #!/usr/bin/env python3
-"""A reference for the tests: the rules for feeds, plain lookup, run tables, packed segments and the program, in Python's standard library. It was
-written from the rules alone, by hands that had seen none of the code it checks; made to be read against docs/RULES.md, not to be quick.
+"""A reference for the tests: the rules for feeds, plain lookup, run tables, packed segments, a list's text and the program, in Python's standard
+library. It was written from the rules alone, all but packed segments and the text by hands that had seen none of the code it checks; made to be
+read against docs/RULES.md, not to be quick.
 
 A prefix is a pair (network, length), a route a triple (network, length, hop). As a program it reads a feed from standard input and writes
 what the program `whelk` has to write.
@@ -130,6 +131,11 @@ def packed_lookup(width, words, bases, hops, address):
 def dotted(address):
     """The address as text: four decimal octets without leading zeros, dots between."""
     return ".".join(str(octet) for octet in address.to_bytes(4, "big"))
+
+
+def list_text(routes):
+    """The text of a list (12.2)."""
+    return "".join(f"{dotted(network)}/{length} {hop}\n" for network, length, hop in routes)
 
 
 def program_text(feed):

@@ -1,5 +1,6 @@
 #!/usr/bin/env python3
-"""Writes a feed of so many rows to a file, and prints what whelk-import has to print where it reads it from standard input.
+"""Writes a feed of so many rows to a file, and the list that it leaves, as text, to another. Prints what whelk-import has to print where it
+reads the feed from standard input.
 
 The rows are in key order and their prefixes nest. Every 701st is faulty: the four faults in turn, each in a row like the last one taken.
 """
@@ -30,7 +31,7 @@ def fault(i, last):
 
 rows, good, last, taken = int(sys.argv[1]), prefixes(), "", 0
 refused = dict.fromkeys(REASONS, 0)
-with open(sys.argv[2], "w", encoding="ascii") as feed:
+with open(sys.argv[2], "w", encoding="ascii") as feed, open(sys.argv[3], "w", encoding="ascii") as listed:
     for line in range(1, rows + 1):
         if line % 701 == 0:
             row, why = fault(line // 701, last)
@@ -43,6 +44,8 @@ with open(sys.argv[2], "w", encoding="ascii") as feed:
         if why:
             refused[why] += 1
             print(f"-:{line}: {why}: {row}")
+        else:
+            listed.write(row + "\n")
 print(f"rows {rows}\ntaken {taken}")
 for why in REASONS:
     print(why.replace(" ", ""), refused[why])

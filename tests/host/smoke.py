@@ -16,6 +16,7 @@ library = CDLL(sys.argv[1])
 SLICE = (c_void_p, c_size_t)
 for name, result, arguments in (
     ("whelk_import", Counts, 4 * SLICE),
+    ("whelk_write", c_uint64, (c_size_t, *(3 * SLICE))),
     ("whelk_plain_lookup", c_uint32, (c_size_t, *SLICE, *SLICE, c_uint32)),
     ("whelk_build", c_uint64, (c_size_t, *(4 * SLICE))),
     ("whelk_run_lookup_slices", c_uint64, (c_size_t, *SLICE, *SLICE, c_uint32)),
@@ -35,11 +36,13 @@ def lent(*slices):
 feed = b"10.0.0.0/8 7\n10.64.0.0/16 9\n10.0.0.1/8 7\n"
 feed = (c_uint8 * len(feed)).from_buffer_copy(feed)
 keys, hops, report = (c_uint64 * 4)(), (c_uint16 * 4)(), (c_uint8 * 4)()
-starts, run_hops = (c_uint32 * 9)(), (c_uint16 * 9)()
+starts, run_hops, text = (c_uint32 * 9)(), (c_uint16 * 9)(), (c_uint8 * 30)(*(30 * b"-"))
 counts = library.whelk_import(*lent(feed, keys, hops, report))
 answers = [
     ([getattr(counts, name) for name, _ in Counts._fields_], [0, 3, 2, 0, 0, 1, 0, 0]),
     (list(report), [0, 0, 3, 0]),
+    (library.whelk_write(2, *lent(keys, hops, text)), 28),
+    (bytes(text), b"10.0.0.0/8 7\n10.64.0.0/16 9\n--"),
     (library.whelk_build(2, *lent(keys, hops, starts, run_hops)), 5),
     (list(zip(starts, run_hops))[:5], [(0, 0), (10 << 24, 7), (0xA400000, 9), (0xA410000, 7), (11 << 24, 0)]),
     (library.whelk_plain_lookup(2, *lent(keys, hops), 0xA400001), 9),

@@ -16,7 +16,10 @@ use Rattle.runs.specs.Build.{BuildOutcome, buildGave}
 use Rattle.segment.specs.declared.PackedHop.{PackedHop}
 use Rattle.segment.specs.declared.PackedHop.the-variants as H
 use Rattle.segment.specs.Lookup.{packedGave}
-use Rattle.host.specs.Exports.{lookupForC, runLookupForC, builtForC, buildGaveC, buildForC}
+use Rattle.text.specs.declared.Written.{Written}
+use Rattle.text.specs.declared.Written.the-variants as W
+use Rattle.text.specs.Text.{WriteOutcome, writeGave}
+use Rattle.host.specs.Exports.{lookupForC, runLookupForC, builtForC, buildGaveC, buildForC, writtenForC, writeGaveC, writeForC}
 
 module _ (r : Looked) where
   pub hop-carried : {h : ℕ} → r ≡ L.Hop h → h ≡ lookupForC (lookupGave r)
@@ -68,3 +71,24 @@ unfolding builtForC buildForC
 build-carried (B.Runs m) e b = rw (e, ← b)
 build-carried B.IllFormed e b = rw (e, ← b)
 build-carried B.NoRoom e b = rw (e, ← b)
+
+module _ (r : Written) where
+  pub text-carried : {n : ℕ} → r ≡ W.Text n → n ≡ writtenForC (writeGave r [])
+  unfolding writtenForC
+  text-carried e = rw e (omega arith)
+
+  pub unwritten-list-carried : r ≡ W.IllFormed → 4294967296 * 11 ≡ writtenForC (writeGave r [])
+  unfolding writtenForC
+  unwritten-list-carried e = rw e (omega arith)
+
+  pub long-text-carried : r ≡ W.NoRoom → 4294967296 * 13 ≡ writtenForC (writeGave r [])
+  unfolding writtenForC
+  long-text-carried e = rw e (omega arith)
+
+-- what a list writer returns to C and leaves goes by its answer and its buffer
+pub write-carried : (r : Written) {n : ℕ} {buffer : List ℕ} {o : WriteOutcome} → n ≡ writtenForC (writeGave r [])
+    → writeGave r buffer ≡ o → writeGaveC n buffer ≡ writeForC o
+unfolding writtenForC writeForC
+write-carried (W.Text m) e b = rw (e, ← b)
+write-carried W.IllFormed e b = rw (e, ← b)
+write-carried W.NoRoom e b = rw (e, ← b)

@@ -1,4 +1,4 @@
--- What C gets from an import, from a build and from a packing is settled: two outcomes that keep the promise for one input are the same,
+-- What C gets from an import, from a build, from a packing and from a list writer is settled: two outcomes that keep the promise for one input are the same,
 -- in what is returned and in each lent slice. The lookups promise an equation.
 -- Assumes nothing.
 use mathlib.Core.Path.{_≡_, sym, ap, _∙_}
@@ -8,7 +8,7 @@ use Rattle.feed.specs.Import.{ImportLent, import}
 use Rattle.segment.specs.Pack.{PackOutcome}
 use Rattle.host.specs.declared.WhelkCounts.{WhelkCounts}
 use Rattle.host.specs.declared.WhelkPacked.{WhelkPacked}
-use Rattle.host.specs.Exports.{hostImportGave, hostPackGave, BuildForC, buildGaveC}
+use Rattle.host.specs.Exports.{hostImportGave, hostPackGave, BuildForC, buildGaveC, WriteForC, writeGaveC}
 use Rattle.host.proofs.ImportCarried.{toC}
 
 -- what C gets from an import and the three slices at exit can be told from what they say
@@ -36,3 +36,6 @@ pub host-pack-settled : (o : PackOutcome) (r r′ : WhelkPacked) (w w′ b b′ 
     → hostPackGave r w b h ≡ o → hostPackGave r′ w′ b′ h′ ≡ o → (r ≡ r′) × (w ≡ w′) × (b ≡ b′) × (h ≡ h′)
 host-pack-settled o r r′ w w′ b b′ h h′ e e′ =
     let same = e ∙ sym e′ in (ap packed-of same, ap (λ x. x .words) same, ap (λ x. x .bases) same, ap (λ x. x .hops) same)
+
+pub host-write-settled : (o : WriteForC) (r r′ : ℕ) (b b′ : List ℕ) → writeGaveC r b ≡ o → writeGaveC r′ b′ ≡ o → (r ≡ r′) × (b ≡ b′)
+host-write-settled o r r′ b b′ e e′ = let same = e ∙ sym e′ in (ap (λ (x : WriteForC). x .answer) same, ap (λ (x : WriteForC). x .buffer) same)

@@ -8,6 +8,7 @@ use Rattle.feed.specs.Import.{ImportOutcome}
 use Rattle.runs.specs.Build.{BuildOutcome}
 use Rattle.runs.specs.Lookup.{RunLookupOutcome}
 use Rattle.segment.specs.Pack.{PackOutcome}
+use Rattle.text.specs.Text.{WriteOutcome}
 use Rattle.host.specs.declared.WhelkCounts.{WhelkCounts}
 use Rattle.host.specs.declared.WhelkPacked.{WhelkPacked}
 
@@ -58,3 +59,18 @@ buildGaveC answer starts hops = record { answer = answer; starts = starts; hops 
 
 unfoldable pub buildForC : BuildOutcome → BuildForC
 buildForC o = buildGaveC (builtForC o) (o .starts) (o .hops)
+
+-- Rule 7.10: a list writer gives C length + 4,294,967,296 × number.
+unfoldable pub writtenForC : WriteOutcome → ℕ
+writtenForC o = 4294967296 * o .number + o .length
+
+-- what a list writer returns to C and leaves: the one number, and the buffer
+pub record WriteForC : Type 0 where
+  pub answer : ℕ
+  pub buffer : List ℕ
+
+abbrev pub writeGaveC : ℕ → List ℕ → WriteForC
+writeGaveC answer buffer = record { answer = answer; buffer = buffer }
+
+unfoldable pub writeForC : WriteOutcome → WriteForC
+writeForC o = writeGaveC (writtenForC o) (o .buffer)

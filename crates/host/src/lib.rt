@@ -1,7 +1,7 @@
 // The C interface: the library's entries over memory that the host lends, each with one number or one plain struct back. It adds no rule of
 // its own; include/whelkhollow.h declares what is exported here.
 ghost use Rattle.host.specs.Exports.{hostImportGave, lookupForC, runLookupForC, builtForC, buildGaveC, buildForC};
-ghost use Rattle.host.specs.Exports.{hostPackGave};
+ghost use Rattle.host.specs.Exports.{hostPackGave, writtenForC, writeGaveC, writeForC};
 ghost use mathlib.Core.Path.{_≡_};
 ghost use mathlib.Core.List.{[]};
 ghost use Prim.Native.Nat.{_≤_};
@@ -14,12 +14,14 @@ ghost use Rattle.runs.specs.Lookup.{runLookupGave, runLookup, bytesLookup};
 ghost use Rattle.runs.specs.Pair.{pair};
 ghost use Rattle.segment.specs.Pack.{packLent, packRefused, packGave, pack};
 ghost use Rattle.segment.specs.Lookup.{segmentLent, packedGave, packedLookup};
+ghost use Rattle.text.specs.Text.{writeGave, write};
 use feed::ImportEnd;
 use routes::Looked;
 use runs::Built;
 use runs::Probed;
 use segment::PackedHop;
 use segment::Packing;
+use text::Written;
 
 // Rule 7.10: what an import returns to C, its number and the seven counts.
 #[repr(C)]
@@ -238,4 +240,24 @@ pub extern "C" fn whelk_pack(
         (packLent (now (words .entry)) (now (bases .entry)) (now (out .entry))) ⌝ }
 {
     packing_for_c(segment::pack(q, count, keys, hops, runs, starts, rhops, words, bases, out))
+}
+
+// Rule 7.10: a list writer gives C length + 4,294,967,296 × number.
+fn written_for_c(r: Written) -> u64
+    ensures { λ n. ⌜ n ≡ writtenForC (writeGave r []) ⌝ }
+{
+    match r {
+        Written::Text(n) => n as u64,
+        Written::IllFormed => HIGH_UNIT * (ground::ILL_FORMED as u64),
+        Written::NoRoom => HIGH_UNIT * (ground::NO_ROOM as u64),
+    }
+}
+
+// Rule 12.3: the text of a list at the front of a lent buffer.
+#[no_mangle]
+pub extern "C" fn whelk_write(count: usize, keys: &[u64], hops: &[u16], buffer: &mut [u8]) -> u64
+    ensures { λ r. ⌜ writeGaveC r (now (buffer .exit))
+        ≡ writeForC (write (listLent count (now (keys .entry)) (now (hops .entry))) (now (buffer .entry))) ⌝ }
+{
+    written_for_c(text::write(count, keys, hops, buffer))
 }

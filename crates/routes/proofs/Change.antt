@@ -1,10 +1,11 @@
--- The list after an announcement and after a withdrawal: which rows it has, that it is well-formed again, how many rows it has, and that
--- the plain answer stays as it was outside the edited prefix and inside a longer listed one within it.
+-- The list after an announcement and after a withdrawal: which rows it has, that it is well-formed again, how many rows it has, that the
+-- plain answer stays as it was outside the edited prefix and inside a longer listed one within it, and that a row behind all goes last.
 -- Assumes nothing.
 use mathlib.Core.Path.{_≡_, refl, sym, ap, _∙_, subst}
 use mathlib.Core.Logic.{_⊎_, inl, inr, ⊎-elim}
 use mathlib.Core.Bool.{Bool, true, false, not}
-use mathlib.Core.List.{List, [], _∷_, List·Memᴰ·head, List·Memᴰ·tail, List·Memᴰ·cases-cons, List·Memᴰ·not-nil}
+use mathlib.Core.List.{List, [], _∷_, _++_, Memᴰ·append-right}
+use mathlib.Core.List.{List·Memᴰ·head, List·Memᴰ·tail, List·Memᴰ·cases-cons, List·Memᴰ·not-nil}
 use Prim.Native.Nat.{ℕ, suc, _<_, _≤_}
 use native.Mathlib.Nat.{lt-irrefl, lt-trans, lt-of-lt-of-le}
 use native.Mathlib.Omega.{arith}
@@ -261,3 +262,20 @@ announced-same k h (t ∷ ts) a m = go (List·Memᴰ·cases-cons m) (announced-s
     go : (row k h ≡ t) ⊎ Has (row k h) ts → (Has (row k h) ts → announced k h ts ≡ ts) → announced k h (t ∷ ts) ≡ t ∷ ts
     go (inl q) rec = announced-at k h t ts (ap (λ r. r .key) q) ∙ ap (λ r. r ∷ ts) q
     go (inr n) rec = announced-after k h t ts (first-below t ts a (row k h) n) ∙ ap (λ l. t ∷ l) (rec n)
+
+-- a prefix whose row would stand behind all others isn't listed, and announcing it puts its row there
+module _ (k h : ℕ) (more : List Row) where
+  next-below : (t : Row) (ts : List Row) → ascending (t ∷ (ts ++ row k h ∷ more)) ≡ true → t .key < k
+  next-below t ts a = first-below t (ts ++ row k h ∷ more) a (row k h) (Memᴰ·append-right ts (List·Memᴰ·head refl))
+
+  pub unlisted-last : (rows : List Row) → ascending (rows ++ row k h ∷ more) ≡ true → listed k rows ≡ false
+  unfolding isIn
+  unlisted-last [] a = refl
+  unlisted-last (t ∷ ts) a =
+      rw (ne-eqb k (t .key) (λ e. omega (arith, next-below t ts a))) (unlisted-last ts (ascending-tail t (ts ++ row k h ∷ more) a))
+
+  pub announced-last : (rows : List Row) → ascending (rows ++ row k h ∷ more) ≡ true → announced k h rows ≡ rows ++ row k h ∷ []
+  unfolding announced
+  announced-last [] a = refl
+  announced-last (t ∷ ts) a =
+      announced-after k h t ts (next-below t ts a) ∙ ap (t ∷_) (announced-last ts (ascending-tail t (ts ++ row k h ∷ more) a))

@@ -5,7 +5,7 @@ pub mod Plain
 pub mod Change
 pub mod KeyPlace
 pub mod Columns
-mod Rest
+pub mod Rest
 mod ListTest
 pub mod LastMatch
 pub mod LookupOutcome

@@ -69,7 +69,7 @@ list-test count keys hops e = sym e
 
 -- a well-formed list, as the slices of its rows
 module _ (count : ℕ) (keys hops : List ℕ) (e : wellFormed count keys hops ≡ true) where
-  in-room : count ≤ listRoom keys hops
+  pub in-room : count ≤ listRoom keys hops
   unfolding wellFormed
   in-room = leb-true _ _ (and-left (leb count (listRoom keys hops)) _ e)
 

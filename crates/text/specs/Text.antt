@@ -12,6 +12,8 @@ use Rattle.cidr.specs.Prefix.{network, lengthOf}
 use Rattle.routes.specs.Row.{Row, ListLent, rowsLent}
 use Rattle.routes.specs.WellFormed.{wellFormed}
 use Rattle.feed.specs.Rows.{LF, dot, slash, space, digit0}
+use Rattle.text.specs.declared.Written.{Written}
+use Rattle.text.specs.declared.Written.the-variants.{Text, IllFormed, NoRoom}
 
 -- Rule 12.2: a number's decimal digits, with no zero in front. `more` bounds how many stand before the last one; n itself is enough.
 unfoldable pub decimalBy : ℕ → ℕ → List ℕ
@@ -47,6 +49,12 @@ pub record WriteOutcome : Type 0 where
 
 abbrev pub wrote : ℕ → ℕ → List ℕ → WriteOutcome
 wrote n len buffer = record { number = n; length = len; buffer = buffer }
+
+-- the same, read from the code's answer and the buffer at exit
+abbrev pub writeGave : Written → List ℕ → WriteOutcome
+writeGave (Text n) buffer = wrote done n buffer
+writeGave IllFormed buffer = wrote illFormed 0 buffer
+writeGave NoRoom buffer = wrote noRoom 0 buffer
 
 -- Rule 12.1: 11 for a list that isn't well-formed. Rule 12.3: 13 for a buffer of fewer bytes than the text.
 unfoldable pub writeChecks : ListLent → List ℕ → List Check
