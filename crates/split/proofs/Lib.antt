@@ -1,1 +1,3 @@
 pub mod Halves
+mod Filling
+mod Opening
