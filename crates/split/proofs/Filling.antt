@@ -2,7 +2,7 @@
 -- others in what is left is the whole.
 -- Assumes nothing.
 use mathlib.Core.Path.{_≡_, refl, sym, ap, _∙_}
-use mathlib.Core.List.{List, [], _∷_, _++_}
+use mathlib.Core.List.{List, [], _∷_, _++_, append-nil}
 use Prim.Native.Nat.{ℕ, suc, _+_, _-_, _≤_, _<_}
 use native.Mathlib.Numerals.{add-one}
 use native.Mathlib.Omega.{arith}
@@ -34,7 +34,7 @@ module _ {xs old out : List ℕ} {i : ℕ} (f : Filling xs old out i) where
   filling-next {v} l e = record {
     upto = omega arith;
     room = f .room;
-    is = ?;
+    is = rw (f .is, e, add-one, take-suc xs i 0 l) (ap (λ n. set (written (take i xs) old) n (getD xs i 0)) (sym there) ∙ written-more (take i xs) old (getD xs i 0) (omega (arith, there, f .room)));
   }
 
   pub filling-end : length xs ≤ i → out ≡ written xs old
@@ -44,4 +44,5 @@ pub first-then : (old : List ℕ) (v k : ℕ) (xs : List ℕ) → 0 < length old
     → take 1 (set old 0 v) ++ (written xs (take k (drop 1 (set old 0 v))) ++ drop k (drop 1 (set old 0 v))) ≡ written (v ∷ xs) old
 unfolding written
 first-then [] v k xs l e = absurd (omega arith)
-first-then (o ∷ os) v k xs l e = ?
+first-then (o ∷ os) v k xs l e =
+    rw (take-all k os (omega arith), drop-of-length-le os {i = k} (omega arith), append-nil)

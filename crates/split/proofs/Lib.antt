@@ -1,3 +1,4 @@
 pub mod Halves
+pub mod Covering
 mod Filling
 mod Opening

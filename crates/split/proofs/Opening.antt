@@ -1,10 +1,14 @@
 -- The sweep over the first half moves on from row to row until all were opened. A step to a row's network opens that row at least.
 -- Assumes nothing.
 use mathlib.Core.Path.{_≡_, refl, sym, ap, _∙_}
+use mathlib.Core.Logic.{⊎-elim}
 use mathlib.Core.List.{List}
 use Prim.Native.Nat.{ℕ, _+_, _-_, _≤_, _<_}
 use native.Mathlib.Omega.{arith}
 use lib.ListN.{length, getD}
+use lib.Dec.{leb}
+use borrow.Author.Tests.{leb-true, leb-false}
+use Rattle.ground.proofs.Truth.{decided}
 use Rattle.cidr.specs.Prefix.{network}
 use Rattle.sweep.specs.Sweep.{Sorted, From, Stack}
 use Rattle.sweep.proofs.Stack.{onward}
@@ -33,7 +37,8 @@ module _ {keys hops ends open-hops : List ℕ} {row depth at : ℕ} (o : Opening
 
   module _ {ends′ open-hops′ : List ℕ} {row′ depth′ at′ : ℕ} (moved : (at′ ≡ to) × Stack keys hops ends′ open-hops′ row′ depth′ to (to + 1)) where
     pub opened-more : row < row′
-    opened-more = ⊎-elim (λ (m : row′ ≤ row). absurd (omega (arith, moved .1 .ahead row m l))) (λ m. m) (le-or-lt row′ row)
+    opened-more =
+        ⊎-elim (λ e. absurd (omega (arith, moved .1 .ahead row (leb-true row′ row e) l))) (λ e. leb-false row′ row e) (decided (leb row′ row))
 
     pub opening-next : Opening keys hops ends′ open-hops′ row′ depth′ at′
     opening-next = record {
