@@ -41,7 +41,7 @@ last-is a h (r ∷ rs) = go (holds (r .key) a) refl (λ h′. last-is a h′ rs)
     go false e rec = rw e (rec h)
 
 module _ {keys hops : List ℕ} (s : Sorted keys hops) where
-  answer-plain : answer 0 (allRows keys hops) ≡ plain (allRows keys hops)
+  pub answer-plain : answer 0 (allRows keys hops) ≡ plain (allRows keys hops)
   unfolding answer
   answer-plain = fun-ext (λ a. sym (plain-last a (allRows keys hops) (in-order s) ∙ last-is a 0 (allRows keys hops)))
 

@@ -2,3 +2,4 @@ pub mod Halves
 pub mod Covering
 mod Filling
 mod Opening
+mod Labelling

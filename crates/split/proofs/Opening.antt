@@ -28,10 +28,8 @@ opening-start s e = record {
   reached = λ to h. omega (arith, e .0);
 }
 
-module _ {keys hops ends open-hops : List ℕ} {row depth at : ℕ} (o : Opening keys hops ends open-hops row depth at) (l : row < length keys) where
-  abbrev to : ℕ
-  to = network (getD keys row 0)
-
+module _ {keys hops ends open-hops : List ℕ} {row depth at to : ℕ} (o : Opening keys hops ends open-hops row depth at) (l : row < length keys)
+    (here : to ≡ network (getD keys row 0)) where
   pub may-step : Sorted keys hops × Stack keys hops ends open-hops row depth at to × (at ≤ to)
   may-step = (o .sorted, onward (o .sorted) (o .stack) to (λ m. omega arith), omega (arith, o .stack .ahead row (omega arith) l))
 

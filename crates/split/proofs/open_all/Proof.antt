@@ -14,31 +14,31 @@ abbrev μ-loop : tie.MeasureT-loop
 μ-loop keys hops ends₀ open-hops₀ s₀ ends open-hops s = length keys - s .row
 
 begin-requires : tie.Need-begin-requires Inv-loop μ-loop
-begin-requires c κs = ?
+begin-requires c κs = let pre = c .before .before .before .before .pre in (pre .0, λ i l. omega arith, pre .1, pre .2)
 
 loop-holds : tie.Need-loop-holds Inv-loop μ-loop
-loop-holds c = ?
+loop-holds c = opening-start (c .before .before .before .before .before .pre .0) (c .begin .ensures)
 
 mul-network : tie.Need-mul-network Inv-loop μ-loop
-mul-network c = ?
+mul-network c = omega (arith, c .before .before .loop .inv .stack .within)
 
 shared-slice-read-network : tie.Need-shared-slice-read-network Inv-loop μ-loop
-shared-slice-read-network c = ?
+shared-slice-read-network c = omega arith
 
 network-requires : tie.Need-network-requires Inv-loop μ-loop
-network-requires c κs = ?
+network-requires c κs = tt
 
 step-requires : tie.Need-step-requires Inv-loop μ-loop
-step-requires c κs = ?
+step-requires c κs = let turn = c .before .before .before .before .before .before in may-step (turn .loop .inv) (omega arith) (c .before .before .network .ensures)
 
 loop-less : tie.Need-loop-less Inv-loop μ-loop
-loop-less c = ?
+loop-less c = let turn = c .before .before .before .before .before .before .before in omega (arith, opened-more (turn .loop .inv) (omega arith) (c .before .before .before .network .ensures) (c .step .ensures), c .step .ensures .1 .within)
 
 loop-again : tie.Need-loop-again Inv-loop μ-loop
-loop-again c = ?
+loop-again c = let turn = c .before .before .before .before .before .before .before in opening-next (turn .loop .inv) (omega arith) (c .before .before .before .network .ensures) (c .step .ensures)
 
 returns : tie.Need-returns Inv-loop μ-loop
-returns c = ?
+returns c = opening-end (c .before .before .loop .inv) (omega arith)
 
 pub open-all-spec : {M : Type 1} → statement M
 open-all-spec =
