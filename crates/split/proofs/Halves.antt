@@ -4,8 +4,8 @@
 use mathlib.Core.Path.{_≡_, refl, sym, ap, _∙_}
 use mathlib.Core.Logic.{_⊎_, inl, inr, ⊎-elim}
 use mathlib.Core.Bool.{true}
-use mathlib.Core.List.{List, [], _∷_, map, Memᴰ·append-left, Memᴰ·append-right, Memᴰ·of-map}
-use mathlib.Core.List.{List·Memᴰ·append-cases, List·Memᴰ·cases-cons, List·Memᴰ·not-nil}
+use mathlib.Core.List.{List, [], _∷_, map, Memᴰ·append-left, Memᴰ·append-right, Memᴰ·map, Memᴰ·of-map}
+use mathlib.Core.List.{List·Memᴰ·tail, List·Memᴰ·append-cases, List·Memᴰ·cases-cons, List·Memᴰ·not-nil}
 use Prim.Native.Nat.{ℕ, zero, suc, _+_, _-_, _≤_, _<_}
 use native.Mathlib.Omega.{arith}
 use lib.ListN.{length, take, drop, length-map, length-drop, take-append-drop}
@@ -24,6 +24,9 @@ second-half-length k rows = omega (arith, length-map (drop k rows) (relabelled (
 pub same-key : (first : List Row) (r : Row) → relabelled first r .key ≡ r .key
 unfolding relabelled
 same-key first r = refl
+
+pub labelled-key : (first : List Row) (r s : Row) → relabelled first r ≡ s → s .key ≡ r .key
+labelled-key first r s q = ap (λ x. x .key) (sym q) ∙ same-key first r
 
 same-keys : (first rows : List Row) → keysOf (map (relabelled first) rows) ≡ keysOf rows
 same-keys first [] = refl
@@ -46,6 +49,10 @@ module _ (k : ℕ) (rows : List Row) where
       → (s ≡ row defaultKey 0) ⊎ ((r : Row) × Has r (drop k rows) × (relabelled (firstHalf k rows) r ≡ s))
   unfolding secondHalf
   second-has s m = ⊎-elim inl (λ n. inr (Memᴰ·of-map (relabelled (firstHalf k rows)) (drop k rows) n)) (List·Memᴰ·cases-cons m)
+
+  pub second-lists : (r : Row) → Has r (drop k rows) → Has (relabelled (firstHalf k rows) r) (secondHalf k rows)
+  unfolding secondHalf
+  second-lists r m = List·Memᴰ·tail (Memᴰ·map (relabelled (firstHalf k rows)) m)
 
   pub first-before : ascending rows ≡ true → (r s : Row) → Has r (firstHalf k rows) → Has s (drop k rows) → r .key < s .key
   unfolding firstHalf
@@ -76,8 +83,7 @@ module _ (k : ℕ) (rows : List Row) (g : HalfGood rows) where
     default-below : (s : Row) → Has s (map (relabelled (firstHalf k rows)) (drop k rows)) → defaultKey < s .key
     default-below s m =
         let w = Memᴰ·of-map (relabelled (firstHalf k rows)) (drop k rows) m in
-        let e : s .key ≡ w .0 .key = ap (λ r. r .key) (sym (w .2)) ∙ same-key (firstHalf k rows) (w .0) in
-        rw e (rest-above k rows some (g .ascends) (w .0) (w .1))
+        rw (labelled-key (firstHalf k rows) (w .0) s (w .2)) (rest-above k rows some (g .ascends) (w .0) (w .1))
 
     rest-ascends : ascending (map (relabelled (firstHalf k rows)) (drop k rows)) ≡ true
     unfolding ascending
@@ -88,7 +94,7 @@ module _ (k : ℕ) (rows : List Row) (g : HalfGood rows) where
     second-parts = record {
       prefixed = λ s m. ⊎-elim
           (λ q. ap (λ r. isPrefix (r .key)) q ∙ default-prefix)
-          (λ w. ap (λ r. isPrefix (r .key)) (sym (w .2)) ∙ rw same-key (g .prefixed (w .0) (rest-has k rows (w .0) (w .1))))
+          (λ w. rw (labelled-key (firstHalf k rows) (w .0) s (w .2)) (g .prefixed (w .0) (rest-has k rows (w .0) (w .1))))
           (second-has k rows s m);
       ascends = ascending-cons (row defaultKey 0) _ default-below rest-ascends;
     }

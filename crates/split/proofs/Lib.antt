@@ -1,3 +1,4 @@
 pub mod Halves
 pub mod Covering
 pub mod Xor
+pub mod HalvesXor
