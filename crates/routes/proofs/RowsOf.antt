@@ -1,9 +1,10 @@
--- The rows of two slices, place by place: the row at a place, one row more, what every row passes, and the rows of the slices' first slots.
+-- The rows of two slices, place by place: the row at a place, one row more, what every row passes, the first rows, and the rows of the
+-- slices' first slots.
 -- Assumes nothing.
 use mathlib.Core.Path.{_≡_, refl, ap}
 use mathlib.Core.Bool.{Bool, true}
 use mathlib.Core.List.{List, [], _∷_, _++_}
-use Prim.Native.Nat.{ℕ, zero, suc, _<_}
+use Prim.Native.Nat.{ℕ, zero, suc, _≤_, _<_}
 use native.Mathlib.Omega.{arith}
 use lib.ListN.{length, getD, take}
 use Rattle.ground.proofs.Truth.{and-left, and-right}
@@ -37,3 +38,21 @@ rows-taken zero keys hops = refl
 rows-taken (suc n) [] hops = refl
 rows-taken (suc n) (k ∷ keys) [] = refl
 rows-taken (suc n) (k ∷ keys) (h ∷ hops) = ap (row k h ∷_) (rows-taken n keys hops)
+
+-- a row of a list at its place, and the list's first rows
+pub row-there : (n : ℕ) (keys hops : List ℕ) (i : ℕ) (d : Row) → i < n → i < length keys → i < length hops
+    → getD (rowsOf n keys hops) i d ≡ rowAt keys hops i
+unfolding rowsOf
+row-there zero keys hops i d l m h = absurd (omega arith)
+row-there (suc n) [] hops i d l m h = absurd (omega arith)
+row-there (suc n) (k ∷ keys) [] i d l m h = absurd (omega arith)
+row-there (suc n) (k ∷ keys) (h ∷ hops) zero d l m o = refl
+row-there (suc n) (k ∷ keys) (h ∷ hops) (suc i) d l m o = row-there n keys hops i d (omega arith) (omega arith) (omega arith)
+
+pub rows-first : (k n : ℕ) (keys hops : List ℕ) → k ≤ n → take k (rowsOf n keys hops) ≡ rowsOf k keys hops
+unfolding rowsOf
+rows-first zero n keys hops l = refl
+rows-first (suc k) zero keys hops l = absurd (omega arith)
+rows-first (suc k) (suc n) [] hops l = refl
+rows-first (suc k) (suc n) (x ∷ keys) [] l = refl
+rows-first (suc k) (suc n) (x ∷ keys) (h ∷ hops) l = ap (row x h ∷_) (rows-first k n keys hops (omega arith))

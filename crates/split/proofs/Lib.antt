@@ -3,3 +3,5 @@ pub mod Covering
 mod Filling
 mod Opening
 mod Labelling
+pub mod Xor
+pub mod HalvesXor
