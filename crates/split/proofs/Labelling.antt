@@ -19,7 +19,7 @@ use Rattle.routes.specs.Row.{Row, row, rowsOf, hopsOf}
 use Rattle.routes.specs.Plain.{plain}
 use Rattle.routes.specs.WellFormed.{halfRows}
 use Rattle.routes.proofs.Row.{Has}
-use Rattle.routes.proofs.RowsOf.{rowAt, rows-taken, rows-first, row-there}
+use Rattle.routes.proofs.RowsOf.{rowAt, rows-taken, rows-front, row-there}
 use Rattle.routes.proofs.WellFormed.{half-parts}
 use Rattle.routes.proofs.Columns.{length-rows}
 use Rattle.runs.proofs.WholeList.{answer-plain}
@@ -53,7 +53,7 @@ module _ {keys hops : List ℕ} (s : Sorted keys hops) {k : ℕ} (within : k ≤
   -- the first half's rows, as the slices have them
   pub first-rows : allRows (take k keys) (take k hops) ≡ firstHalf k rows
   unfolding firstHalf
-  first-rows = rw (length-take-le k keys within) (rows-taken k keys hops ∙ sym (rows-first k (length keys) keys hops within))
+  first-rows = rw (length-take-le k keys within) (rows-taken k keys hops ∙ sym (rows-front k (length keys) keys hops within))
 
   pub first-sorted : Sorted (take k keys) (take k hops)
   first-sorted = record {

@@ -5,3 +5,5 @@ mod Opening
 mod Labelling
 pub mod Xor
 pub mod HalvesXor
+pub mod SplitThenLookup
+mod Outcome

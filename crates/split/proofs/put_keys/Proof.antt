@@ -1,3 +1,5 @@
+use native.Mathlib.Omega.{arith}
+use lib.ListN.{length-set, length-take, length-drop}
 use borrow.Author.Needs.{needs}
 use Rattle.split.proofs.put_keys.Statement.{statement}
 use Rattle.split.proofs.put_keys.Tie as tie
@@ -18,7 +20,7 @@ part-copy-end : tie.Need-part-copy-end
 part-copy-end c = search needs
 
 sub-copy-2 : tie.Need-sub-copy-2
-sub-copy-2 c = ?
+sub-copy-2 c = simp length-set (omega arith)
 
 part-copy-start-2 : tie.Need-part-copy-start-2
 part-copy-start-2 c = ?
@@ -27,7 +29,7 @@ part-copy-end-2 : tie.Need-part-copy-end-2
 part-copy-end-2 c = search needs
 
 copy-requires : tie.Need-copy-requires
-copy-requires c κs = ?
+copy-requires c κs = simp (length-take, length-drop, length-set) (omega arith)
 
 same-length : tie.Need-same-length
 same-length c = ?

@@ -1,3 +1,5 @@
+use native.Mathlib.Omega.{arith}
+use lib.ListN.{length-set, length-take, length-drop}
 use borrow.Author.Needs.{needs}
 use Rattle.split.proofs.put_labels.Statement.{statement}
 use Rattle.split.proofs.put_labels.Tie as tie
@@ -6,7 +8,7 @@ slice-write-labels : tie.Need-slice-write-labels
 slice-write-labels c = search needs
 
 sub-write-labels : tie.Need-sub-write-labels
-sub-write-labels c = ?
+sub-write-labels c = simp length-set (omega arith)
 
 part-write-labels-start : tie.Need-part-write-labels-start
 part-write-labels-start c = ?
@@ -15,7 +17,7 @@ part-write-labels-end : tie.Need-part-write-labels-end
 part-write-labels-end c = search needs
 
 write-labels-requires : tie.Need-write-labels-requires
-write-labels-requires c κs = ?
+write-labels-requires c κs = let pre = c .before .before .before .before .pre in (pre .0, record { some = pre .1; within = pre .2; room = simp (length-take, length-drop, length-set) (omega arith) })
 
 same-length : tie.Need-same-length
 same-length c = ?
