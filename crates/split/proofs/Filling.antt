@@ -40,9 +40,9 @@ module _ {xs old out : List ℕ} {i : ℕ} (f : Filling xs old out i) where
   pub filling-end : length xs ≤ i → out ≡ written xs old
   filling-end l = f .is ∙ ap (λ ys. written ys old) (take-all i xs l)
 
-pub first-then : (old : List ℕ) (v k : ℕ) (xs : List ℕ) → 0 < length old → k ≡ length (set old 0 v) - 1
-    → take 1 (set old 0 v) ++ (written xs (take k (drop 1 (set old 0 v))) ++ drop k (drop 1 (set old 0 v))) ≡ written (v ∷ xs) old
+pub first-then : (old : List ℕ) (v : ℕ) {k : ℕ} (xs : List ℕ) {part : List ℕ} → 0 < length old → k ≡ length (set old 0 v) - 1
+    → part ≡ written xs (take k (drop 1 (set old 0 v))) → take 1 (set old 0 v) ++ (part ++ drop k (drop 1 (set old 0 v))) ≡ written (v ∷ xs) old
 unfolding written
-first-then [] v k xs l e = absurd (omega arith)
-first-then (o ∷ os) v k xs l e =
-    rw (take-all k os (omega arith), drop-of-length-le os {i = k} (omega arith), append-nil)
+first-then [] v xs l e p = absurd (omega arith)
+first-then (o ∷ os) v {k} xs l e p =
+    rw (p, take-all k os (omega arith), drop-of-length-le os {i = k} (omega arith), append-nil)

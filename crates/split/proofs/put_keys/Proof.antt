@@ -1,5 +1,13 @@
+-- `split::put_keys` meets its contract: 0 in front, and the keys from place k on in what is left.
+-- Assumes nothing.
+use mathlib.Core.Path.{_≡_, refl, ap, _∙_}
+use mathlib.Core.List.{_∷_}
+use Prim.Native.Nat.{_-_}
 use native.Mathlib.Omega.{arith}
-use lib.ListN.{length-set, length-take, length-drop}
+use lib.ListN.{length, take, drop, length-set, length-take, length-drop}
+use lib.Seq.{take-all}
+use Rattle.ground.proofs.Slots.{length-written}
+use Rattle.split.proofs.Filling.{first-then}
 use borrow.Author.Needs.{needs}
 use Rattle.split.proofs.put_keys.Statement.{statement}
 use Rattle.split.proofs.put_keys.Tie as tie
@@ -23,7 +31,7 @@ sub-copy-2 : tie.Need-sub-copy-2
 sub-copy-2 c = simp length-set (omega arith)
 
 part-copy-start-2 : tie.Need-part-copy-start-2
-part-copy-start-2 c = ?
+part-copy-start-2 c = sub-copy-2 c
 
 part-copy-end-2 : tie.Need-part-copy-end-2
 part-copy-end-2 c = search needs
@@ -31,11 +39,23 @@ part-copy-end-2 c = search needs
 copy-requires : tie.Need-copy-requires
 copy-requires c κs = simp (length-take, length-drop, length-set) (omega arith)
 
+-- the keys from place k on
+abbrev start : tie.After-slice-known2 → tie.Start
+start c = c .before .before .before .before .before .before .before
+
+whole : tie.Need-returns
+whole c =
+    let st = start c in
+    let rest : take (length (st .args .keys .now) - st .args .k) (drop (st .args .k) (st .args .keys .now)) ≡ drop (st .args .k) (st .args .keys .now)
+        = take-all (length (st .args .keys .now) - st .args .k) (drop (st .args .k) (st .args .keys .now)) (simp length-drop (omega arith)) in
+    first-then (st .args .out .now) 0 (drop (st .args .k) (st .args .keys .now)) (omega arith) refl (rw rest at (c .before .before .copy .ensures))
+
 same-length : tie.Need-same-length
-same-length c = ?
+same-length c =
+    let st = start c in ap length (whole c) ∙ length-written (0 ∷ drop (st .args .k) (st .args .keys .now)) (st .args .out .now) (omega (arith, length-drop (st .args .k) (st .args .keys .now)))
 
 returns : tie.Need-returns
-returns c = ?
+returns c = whole c
 
 pub put-keys-spec : {M : Type 1} → statement M
 put-keys-spec =
