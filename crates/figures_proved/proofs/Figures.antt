@@ -9,7 +9,7 @@ use Rattle.ground.specs.Stretch.{stretch, among, turnsFrom}
 use Rattle.halving.specs.Halving.{halves, halving}
 use Rattle.cidr.specs.Prefix.{size, hostBits, isPrefix, holds, covers}
 use Rattle.routes.specs.Row.{every, those, rowsOf, listRoom}
-use Rattle.routes.specs.WellFormed.{prefixes, hopsGiven, ascending, halfRows, goodRows, wellFormed, halfFormed}
+use Rattle.routes.specs.WellFormed.{prefixes, hopsGiven, ascending, halfRows, goodRows, wellFormed, halfFormed, formed}
 use Rattle.routes.specs.Plain.{matching, longer, longest, plain}
 use Rattle.routes.specs.Change.{announced, withdrawn}
 use Rattle.routes.specs.Lookup.{lookupChecks, plainLookup, halfChecks, halfLookup}
@@ -18,7 +18,7 @@ use Rattle.feed.specs.Reading.{digits, afterDigits, fieldsOf, valueFrom, inPlac
 use Rattle.feed.specs.RowNumber.{howMany, countsOf}
 use Rattle.feed.specs.Import.{rowNumber, listAfter, rowNumbersFrom, rowNumbers, listFrom, importedList, importChecks, import, importTally}
 use Rattle.feed.specs.Pull.{pullOf, pull}
-use Rattle.runs.specs.Build.{runRoom, buildChecks, build}
+use Rattle.runs.specs.Build.{runRoom, buildChecks, buildOf}
 use Rattle.runs.specs.Pair.{pairIll, pairChecks}
 use Rattle.edit.specs.Edit.{badPrefix, announceChecks, announce, withdrawChecks, withdraw}
 use Rattle.runs.specs.Bytes.{runBytes, startAt, hopAt}
@@ -38,5 +38,5 @@ unfolding allHold same firstFault stretch among turnsFrom size hostBits holds co
 marked-hold = tt
 
 pub corners-hold : T (allHold corners)
-unfolding lower rowLength runRoom buildChecks pairIll pairChecks badPrefix announceChecks announce withdrawChecks withdraw allHold same written rewritten insertedAt removedAt firstFault outcome stretch among turnsFrom halves halving size hostBits isPrefix holds covers every those rowsOf listRoom prefixes hopsGiven ascends ascending halfRows goodRows wellFormed halfFormed matching longer longest plain announced withdrawn lookupChecks halfChecks rowsIn digits afterDigits fieldsOf valueFrom inPlaces valuesOf outOfRange hasHostBits valueFault judgedValues judged readRow rowNumber listAfter rowNumbersFrom rowNumbers listFrom importedList howMany countsOf importChecks import importTally pullOf pull runBytes startAt hopAt inSlices runChecks inBytes width blockHop bit wordFrom wordsFor codeWords keptHops wordsOf basesFrom basesOf packedHopsOf blockOf onesTo pastPlace packedChecks covering relabelled firstHalf secondHalf splitChecks decimalBy decimal dottedText rowText textOf writeChecks lineOf nameLines countLines runLines ones onesIn isIn build plainLookup halfLookup runLookup bytesChecks bytesLookup packedLookup split write lookupForC runLookupForC
+unfolding lower rowLength runRoom buildChecks pairIll pairChecks badPrefix announceChecks announce withdrawChecks withdraw allHold same written rewritten insertedAt removedAt firstFault outcome stretch among turnsFrom halves halving size hostBits isPrefix holds covers every those rowsOf listRoom prefixes hopsGiven ascends ascending halfRows goodRows wellFormed halfFormed formed matching longer longest plain announced withdrawn lookupChecks halfChecks rowsIn digits afterDigits fieldsOf valueFrom inPlaces valuesOf outOfRange hasHostBits valueFault judgedValues judged readRow rowNumber listAfter rowNumbersFrom rowNumbers listFrom importedList howMany countsOf importChecks import importTally pullOf pull runBytes startAt hopAt inSlices runChecks inBytes width blockHop bit wordFrom wordsFor codeWords keptHops wordsOf basesFrom basesOf packedHopsOf blockOf onesTo pastPlace packedChecks covering relabelled firstHalf secondHalf splitChecks decimalBy decimal dottedText rowText textOf writeChecks lineOf nameLines countLines runLines ones onesIn isIn buildOf plainLookup halfLookup runLookup bytesChecks bytesLookup packedLookup split write lookupForC runLookupForC
 corners-hold = tt
