@@ -1,11 +1,9 @@
 -- Corners beside the worked figures of rule 14.1, reckoned by hand. Each names the rule that it tries.
 -- Assumes nothing.
-use mathlib.Core.Bool.{true}
 use mathlib.Core.List.{List, [], _∷_, _++_}
 use mathlib.Core.Option.{Option, none, some}
 use Prim.Native.Nat.{ℕ, _+_, _^_}
-use lib.ListN.{length, take}
-use Rattle.ground.specs.Numbers.{firstFault}
+use lib.ListN.{length}
 use Rattle.ground.specs.Slots.{rewritten}
 use Rattle.ground.specs.Column.{isIn, insertedAt, removedAt, lower}
 use Rattle.halving.specs.Halving.{halving}
@@ -23,7 +21,7 @@ use Rattle.feed.specs.RowNumber.{countsOf}
 use Rattle.feed.specs.Import.{rowNumbers, importedList, ImportLent, import, importTally}
 use Rattle.feed.specs.Pull.{pull}
 use Rattle.runs.specs.Table.{runsLent}
-use Rattle.runs.specs.Build.{slotsLent, buildChecks, build, buildHalf}
+use Rattle.runs.specs.Build.{slotsLent, build, buildHalf}
 use Rattle.runs.specs.Pair.{Pair, pair}
 use Rattle.runs.specs.Bytes.{runBytes}
 use Rattle.edit.specs.Edit.{announce, withdraw}
@@ -255,9 +253,9 @@ corners =
     -- Rules 5.2 and 5.4: a build of an ill-formed list is 11 without any room too, and its slices stay.
     ∷ one (build (listLent 1 (2 ^ 38 ∷ []) (1 ∷ [])) (slotsLent [] []) .number) 11
     ∷ figure (build (listLent 1 (2 ^ 38 ∷ []) (1 ∷ [])) (slotsLent (7 ∷ []) (8 ∷ [])) .starts) (7 ∷ [])
-    -- Rule 11.10: label 0 is 11 for a build, but no fault by the first check of a build over a half. An ill-formed half is 11 without any
-    -- room too, and the slices stay.
-    ∷ figure (build label0 (slotsLent [] []) .number ∷ firstFault (take 1 (buildChecks true label0 (slotsLent [] []))) ∷ []) (11 ∷ 0 ∷ [])
+    -- Rule 11.10: label 0 is 11 for a build; that a build over a half takes it is `label-0-built`. An ill-formed half is 11 without any room
+    -- too, and the slices stay.
+    ∷ one (build label0 (slotsLent (7 ∷ 7 ∷ 7 ∷ []) (8 ∷ 8 ∷ 8 ∷ [])) .number) 11
     ∷ one (buildHalf illHalf (slotsLent [] []) .number) 11
     ∷ figure (buildHalf illHalf (slotsLent (7 ∷ []) (8 ∷ [])) .starts ++ buildHalf illHalf (slotsLent (7 ∷ []) (8 ∷ [])) .hops) (7 ∷ 8 ∷ [])
     -- Rules 10.2 and 10.3: an edit's 15 comes before the pair's 11. Rule 8.1: a count of runs beyond one slice is 11.
