@@ -82,7 +82,7 @@ module _ {keys hops : List ℕ} (s : Sorted keys hops) {k : ℕ} (within : k ≤
       let d : Row = row 0 0 in
       let left : slot < length (drop k rows) = omega (arith, length-drop k rows, as-many) in
       let here : getD (drop k rows) slot d ≡ rowAt keys hops (k + slot)
-          = getD-drop k rows slot d ∙ row-there (length keys) keys hops (k + slot) d l l (omega (arith, s .paired)) in
+      = getD-drop k rows slot d ∙ row-there (length keys) keys hops (k + slot) d l l (omega (arith, s .paired)) in
       let label = label-is k rows (half-parts rows (s .half)) (getD (drop k rows) slot d) (has-at (drop k rows) slot d left) in
       map-at (λ r. r .hop) (map (relabelled (firstHalf k rows)) (drop k rows)) slot d 0 (rw length-map left)
       ∙ ap (λ r. r .hop) (map-at (relabelled (firstHalf k rows)) (drop k rows) slot d d left ∙ label)

@@ -7,3 +7,5 @@ pub mod Xor
 pub mod HalvesXor
 pub mod SplitThenLookup
 mod Outcome
+pub mod SplitThenRunLookup
+pub mod Settled

@@ -16,10 +16,11 @@ use Rattle.ground.specs.Slots.{written}
 use Rattle.ground.proofs.Truth.{and-left, and-right}
 use Rattle.ground.specs.Column.{isIn, ascends}
 use Rattle.routes.specs.Row.{Row, row, ListLent, rowsLent, rowsOf, keysOf, hopsOf, listRoom, topRoom}
-use Rattle.routes.specs.WellFormed.{wellFormed, ascending}
+use Rattle.routes.specs.WellFormed.{wellFormed, halfFormed, ascending}
 use Rattle.routes.specs.Change.{listed}
 use Rattle.routes.proofs.Columns.{length-rows, keys-of-rows}
-use Rattle.runs.proofs.WholeList.{in-room, in-keys, in-hops, slices-rows, slices-sorted}
+use Rattle.routes.proofs.ListTest.{well-half, half-room}
+use Rattle.runs.proofs.WholeList.{in-keys, in-hops, slices-rows, slices-sorted}
 use Rattle.sweep.proofs.Sorted.{in-order}
 use Rattle.split.specs.Split.{defaultKey, relabelled, firstHalf, secondHalf, SplitLent, splitInto, splitChecks, split}
 use Rattle.split.specs.Inside.Labels.{labelsFrom}
@@ -44,13 +45,13 @@ pub default-first : (count : ℕ) (keys hops : List ℕ) → wellFormed count ke
     → listed defaultKey (rowsOf count keys hops) ≡ eqb (getD keys 0 0) 0
 unfolding ascending
 default-first count keys hops well l =
-    let within = in-keys count keys hops well in
-    let keys-are = keys-of-rows count keys hops within (in-hops count keys hops well) in
-    ap (isIn 0) keys-are ∙ zero-first (take count keys) (rw keys-are at sorted) (simp length-take (omega arith))
+    let half = well-half count keys hops well in
+    let keys-are = keys-of-rows count keys hops (in-keys count keys hops half) (in-hops count keys hops half) in
+    ap (isIn 0) keys-are ∙ zero-first (take count keys) (rw keys-are at sorted) (simp length-take (omega (arith, in-keys count keys hops half)))
     ∙ ap (λ n. eqb n 0) (getD-take count keys 0 0 l)
   where
     sorted : ascends (keysOf (rowsOf count keys hops)) ≡ true
-    sorted = rw (slices-rows count keys hops well) at (in-order (slices-sorted count keys hops well))
+    sorted = let half = well-half count keys hops well in rw (slices-rows count keys hops half) at (in-order (slices-sorted count keys hops half))
 
 -- the keys of the second half are 0 and the list's from place k on
 kept-keys : (first rows : List Row) → keysOf (map (relabelled first) rows) ≡ keysOf rows
@@ -76,9 +77,9 @@ pub second-fits : (k : ℕ) (l : ListLent) → wellFormed (l .count) (l .keys) (
     → (length (secondHalf k (rowsLent l)) ≡ l .count - k + 1) × (l .count - k + 1 ≤ topRoom)
 unfolding listRoom
 second-fits k l well some upto =
-    let within = in-keys (l .count) (l .keys) (l .hops) well in
-    let long = length-rows (l .count) (l .keys) (l .hops) within (in-hops (l .count) (l .keys) (l .hops) well) in
-    (second-half-length k (rowsLent l) ∙ ap (λ n. n - k + 1) long, omega (arith, in-room (l .count) (l .keys) (l .hops) well))
+    let half = well-half (l .count) (l .keys) (l .hops) well in
+    let long = length-rows (l .count) (l .keys) (l .hops) (in-keys _ (l .keys) (l .hops) half) (in-hops _ (l .keys) (l .hops) half) in
+    (second-half-length k (rowsLent l) ∙ ap (λ n. n - k + 1) long, omega (arith, half-room (l .count) (l .keys) (l .hops) half))
 
 module _ (k : ℕ) (l : ListLent) (out : SplitLent) where
   pub split-ill : wellFormed (l .count) (l .keys) (l .hops) ≡ false → splitInto illFormed 0 (out .keys) (out .labels) ≡ split k l out
@@ -123,6 +124,9 @@ module _ (k : ℕ) (l : ListLent) (out : SplitLent) where
         split-short-labels e = split-short (omega (arith, counted))
 
         module _ (room : l .count - k + 1 ≤ length (out .keys)) (room′ : l .count - k + 1 ≤ length (out .labels)) where
+          half : halfFormed (l .count) (l .keys) (l .hops) ≡ true
+          half = well-half (l .count) (l .keys) (l .hops) well
+
           enough : length (secondHalf k (rowsLent l)) ≤ listRoom (out .keys) (out .labels)
           unfolding listRoom
           enough = omega (arith, counted, second-fits k l well some upto .1)
@@ -139,7 +143,7 @@ module _ (k : ℕ) (l : ListLent) (out : SplitLent) where
             counted,
             second-keys k (rowsLent l),
             second-labels k (rowsLent l),
-            keys-of-rows (l .count) (l .keys) (l .hops) (in-keys _ (l .keys) (l .hops) well) (in-hops _ (l .keys) (l .hops) well),
+            keys-of-rows (l .count) (l .keys) (l .hops) (in-keys _ (l .keys) (l .hops) half) (in-hops _ (l .keys) (l .hops) half),
             a,
             b,
           )

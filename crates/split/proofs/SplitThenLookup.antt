@@ -96,7 +96,7 @@ module _ (k : ℕ) (l : ListLent) (out : SplitLent) {n : ℕ} {keys labels : Lis
   unfolding halfFormed
   first-formed = and-both (le-leb k _ (omega (arith, in-room, checked .upto))) (rw first-rows (first-half-good k (rowsLent l) good))
 
-  first-is : (a : ℕ) → halfLookup (listLent k (l .keys) (l .hops)) a ≡ lookedUp done (plain (firstHalf k (rowsLent l)) a)
+  pub first-is : (a : ℕ) → halfLookup (listLent k (l .keys) (l .hops)) a ≡ lookedUp done (plain (firstHalf k (rowsLent l)) a)
   first-is a = half-accepted (listLent k (l .keys) (l .hops)) a first-formed ∙ rw first-rows
 
   -- the second half: what the split left
@@ -124,7 +124,7 @@ module _ (k : ℕ) (l : ListLent) (out : SplitLent) {n : ℕ} {keys labels : Lis
       and-both (le-leb n _ (rw (second-room, count-is) (checked .room)))
       (rw second-rows (second-half-good k (rowsLent l) good (checked .some)))
 
-  second-is : (a : ℕ) → halfLookup (listLent n keys labels) a ≡ lookedUp done (plain second a)
+  pub second-is : (a : ℕ) → halfLookup (listLent n keys labels) a ≡ lookedUp done (plain second a)
   second-is a = half-accepted (listLent n keys labels) a second-formed ∙ rw second-rows
 
   -- Rule 11.6

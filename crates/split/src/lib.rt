@@ -21,12 +21,7 @@ pub enum Parted {
 }
 
 // The stack of the open prefixes over some rows, moved on until all of them were opened.
-fn open_all(
-    keys: &[u64],
-    hops: &[u16],
-    ends: &mut [u64; 33],
-    open_hops: &mut [u16; 33],
-) -> Standing
+fn open_all(keys: &[u64], hops: &[u16], ends: &mut [u64; 33], open_hops: &mut [u16; 33]) -> Standing
     requires { ⌜ Sorted (now keys) (now hops) × (length (now ends) ≡ 33) × (length (now open_hops) ≡ 33) ⌝ }
     ensures { λ r. ⌜ AllOpen (now (keys .entry)) (now (hops .entry)) (now (ends .exit)) (now (open_hops .exit)) (r .row) (r .depth) (r .at) ⌝ }
 {

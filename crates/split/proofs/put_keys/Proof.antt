@@ -47,7 +47,7 @@ whole : tie.Need-returns
 whole c =
     let st = start c in
     let rest : take (length (st .args .keys .now) - st .args .k) (drop (st .args .k) (st .args .keys .now)) ≡ drop (st .args .k) (st .args .keys .now)
-        = take-all (length (st .args .keys .now) - st .args .k) (drop (st .args .k) (st .args .keys .now)) (simp length-drop (omega arith)) in
+    = take-all (length (st .args .keys .now) - st .args .k) (drop (st .args .k) (st .args .keys .now)) (simp length-drop (omega arith)) in
     first-then (st .args .out .now) 0 (drop (st .args .k) (st .args .keys .now)) (omega arith) refl (rw rest at (c .before .before .copy .ensures))
 
 same-length : tie.Need-same-length

@@ -10,8 +10,9 @@ use denote.Ref.{now}
 use borrow.Author.Tests.{eq-eqb, ne-eqb}
 use Rattle.ground.proofs.Truth.{not-true, not-false}
 use Rattle.routes.specs.Row.{rowsOf}
-use Rattle.routes.specs.WellFormed.{wellFormed}
+use Rattle.routes.specs.WellFormed.{wellFormed, halfFormed}
 use Rattle.routes.specs.Change.{listed}
+use Rattle.routes.proofs.ListTest.{well-half}
 use Rattle.runs.proofs.WholeList.{list-test, in-keys, in-hops, slices-rows, slices-sorted}
 use Rattle.split.specs.Split.{defaultKey}
 use Rattle.split.proofs.Outcome.{default-first, split-ill, split-no-size, split-big-size, split-no-default, split-short-keys, split-short-labels, split-done}
@@ -46,10 +47,10 @@ returns-3 : tie.Need-returns-3
 returns-3 c = split-big-size _ _ _ (ok (c .before .before)) (omega arith)
 
 shared-slice-read-if4 : tie.Need-shared-slice-read-if4
-shared-slice-read-if4 c = omega (arith, in-keys _ _ _ (ok (past-list (c .before))))
+shared-slice-read-if4 c = omega (arith, in-keys _ _ _ (well-half _ _ _ (ok (past-list (c .before)))))
 
 returns-4 : tie.Need-returns-4
-returns-4 c = 
+returns-4 c =
     let size = c .before .before in
     split-no-default _ _ _ (ok (past-list size)) (omega arith) (omega arith)
     (default-first _ _ _ (ok (past-list size)) (omega arith) ∙ ne-eqb _ 0 (c .if4 .taken))
@@ -58,30 +59,30 @@ add-rows : tie.Need-add-rows
 add-rows c = search needs
 
 returns-5 : tie.Need-returns-5
-returns-5 c = 
+returns-5 c =
     let d = c .before in
     split-short-keys _ _ _ (ok (past-list (past-size d))) (omega arith) (omega arith) (has-default d) (omega arith)
 
 returns-6 : tie.Need-returns-6
-returns-6 c = 
+returns-6 c =
     let d = c .before .before in
     split-short-labels _ _ _ (ok (past-list (past-size d))) (omega arith) (omega arith) (has-default d) (omega arith)
 
--- past the room: the list is well-formed
+-- past the room: the list is well-formed, and so in order
 abbrev past-first : tie.Else6 → tie.Else4
 past-first c = c .before .before
 
 fine : (c : tie.Else6) → let a = past-list (past-size (past-first c)) .before .before .before .before .before .before .args in
-    wellFormed (a .count) (now (a .keys)) (now (a .hops)) ≡ true
-fine c = ok (past-list (past-size (past-first c)))
+    halfFormed (a .count) (now (a .keys)) (now (a .hops)) ≡ true
+fine c = well-half _ _ _ (ok (past-list (past-size (past-first c))))
 
 slice-aggregate-put-keys : tie.Need-slice-aggregate-put-keys
 slice-aggregate-put-keys c = sym (length-take-le _ _ (in-keys _ _ _ (fine (c .before))))
 
 put-keys-requires : tie.Need-put-keys-requires
-put-keys-requires c κs = 
-    let well = fine (c .before .before) in
-    (simp length-take (omega (arith, in-keys _ _ _ well)), simp length-take (omega (arith, in-keys _ _ _ well)))
+put-keys-requires c κs =
+    let half = fine (c .before .before) in
+    (simp length-take (omega (arith, in-keys _ _ _ half)), simp length-take (omega (arith, in-keys _ _ _ half)))
 
 slice-aggregate-put-labels : tie.Need-slice-aggregate-put-labels
 slice-aggregate-put-labels c = sym (length-take-le _ _ (in-keys _ _ _ (fine (c .before .before .before .before .before .before))))
@@ -90,13 +91,12 @@ slice-aggregate-put-labels-2 : tie.Need-slice-aggregate-put-labels-2
 slice-aggregate-put-labels-2 c = sym (length-take-le _ _ (in-hops _ _ _ (fine (c .before .before .before .before .before .before .before))))
 
 put-labels-requires : tie.Need-put-labels-requires
-put-labels-requires c κs = 
-    let well = fine (c .before .before .before .before .before .before .before .before) in
-    (
-      slices-sorted _ _ _ well,
+put-labels-requires c κs =
+    let half = fine (c .before .before .before .before .before .before .before .before) in (
+      slices-sorted _ _ _ half,
       omega arith,
-      simp length-take (omega (arith, in-keys _ _ _ well)),
-      simp length-take (omega (arith, in-keys _ _ _ well)),
+      simp length-take (omega (arith, in-keys _ _ _ half)),
+      simp length-take (omega (arith, in-keys _ _ _ half)),
     )
 
 same-length : tie.Need-same-length
@@ -106,13 +106,12 @@ same-length-2 : tie.Need-same-length-2
 same-length-2 c = search needs
 
 returns-7 : tie.Need-returns-7
-returns-7 c = 
+returns-7 c =
     let keyed = c .before .before .before .before .before .before .before .before in
     let room = keyed .before .before .before in
     let d = past-first room in
-    let well = fine room in
-    split-done _ _ _ well (omega arith) (omega arith) (has-default d) (omega arith) (omega arith) (keyed .put-keys .ensures)
-    (rw (slices-rows _ _ _ well) at (c .before .before .put-labels .ensures))
+    split-done _ _ _ (ok (past-list (past-size d))) (omega arith) (omega arith) (has-default d) (omega arith) (omega arith) (keyed .put-keys .ensures)
+    (rw (slices-rows _ _ _ (fine room)) at (c .before .before .put-labels .ensures))
 
 pub split-spec : {M : Type 1} → statement M
 split-spec =

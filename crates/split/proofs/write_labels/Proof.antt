@@ -77,7 +77,7 @@ loop-less : tie.Need-loop-less Inv-loop μ-loop
 loop-less c = omega arith
 
 loop-again : tie.Need-loop-again Inv-loop μ-loop
-loop-again c = 
+loop-again c =
     let st = c .before .before .before in
     let t = turn st in
     labelling-next (start t .pre .0) (within t) (t .loop .inv) (omega arith) (st .before .before .before .network .ensures) (st .step .ensures)
