@@ -15,22 +15,21 @@ use borrow.Author.Tests.{leb-true, leb-false}
 use Rattle.ground.specs.Slots.{written}
 use Rattle.ground.proofs.Truth.{decided}
 use Rattle.cidr.specs.Prefix.{network}
-use Rattle.routes.specs.Row.{Row, row, rowsOf, hopsOf}
+use Rattle.routes.specs.Row.{Row, row}
 use Rattle.routes.specs.Plain.{plain}
-use Rattle.routes.specs.WellFormed.{halfRows}
 use Rattle.routes.proofs.Row.{Has}
 use Rattle.routes.proofs.RowsOf.{rowAt, rows-taken, rows-front, row-there}
 use Rattle.routes.proofs.WellFormed.{half-parts}
 use Rattle.routes.proofs.Columns.{length-rows}
 use Rattle.runs.proofs.WholeList.{answer-plain}
-use Rattle.sweep.specs.Sweep.{lastOr, allRows, answer, Sorted, Stack}
+use Rattle.sweep.specs.Sweep.{lastOr, allRows, Sorted, Stack}
 use Rattle.sweep.proofs.Sorted.{climbs}
 use Rattle.sweep.proofs.Stack.{onward, standing-answer, few-open}
 use Rattle.split.specs.Split.{relabelled, firstHalf}
 use Rattle.split.specs.Inside.Labels.{AllOpen, Labelled, labelsFrom}
 use Rattle.split.proofs.Halves.{first-half-good}
 use Rattle.split.proofs.Covering.{label-is}
-use Rattle.split.proofs.Filling.{Filling, filling-start, filling-long, slot-free, filling-next, filling-end}
+use Rattle.split.proofs.Filling.{Filling, filling-start, slot-free, filling-next, filling-end}
 
 -- what a function makes of a list, at a place
 map-at : {A B : Type 0} (f : A → B) (xs : List A) (i : ℕ) (d : A) (e : B) → i < length xs → getD (map f xs) i e ≡ f (getD xs i d)

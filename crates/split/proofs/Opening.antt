@@ -1,6 +1,6 @@
 -- The sweep over the first half moves on from row to row until all were opened. A step to a row's network opens that row at least.
 -- Assumes nothing.
-use mathlib.Core.Path.{_≡_, refl, sym, ap, _∙_}
+use mathlib.Core.Path.{_≡_}
 use mathlib.Core.Logic.{⊎-elim}
 use mathlib.Core.List.{List}
 use Prim.Native.Nat.{ℕ, _+_, _-_, _≤_, _<_}
@@ -10,7 +10,7 @@ use lib.Dec.{leb}
 use borrow.Author.Tests.{leb-true, leb-false}
 use Rattle.ground.proofs.Truth.{decided}
 use Rattle.cidr.specs.Prefix.{network}
-use Rattle.sweep.specs.Sweep.{Sorted, From, Stack}
+use Rattle.sweep.specs.Sweep.{Sorted, Stack}
 use Rattle.sweep.proofs.Stack.{onward}
 use Rattle.split.specs.Inside.Labels.{AllOpen}
 

@@ -1,11 +1,10 @@
 -- What a split returns and leaves, check by check: 11, 17, 18, 13, and else the second half in the two slices. In a well-formed list
 -- 0.0.0.0/0 is listed exactly if the first key is 0.
 -- Assumes nothing.
-use mathlib.Core.Path.{_≡_, refl, sym, ap, _∙_}
-use mathlib.Core.Logic.{⊎-elim}
-use mathlib.Core.Bool.{Bool, true, false, not, _||_}
+use mathlib.Core.Path.{_≡_, refl, ap, _∙_}
+use mathlib.Core.Bool.{true, false}
 use mathlib.Core.List.{List, [], _∷_, map}
-use Prim.Native.Nat.{ℕ, zero, suc, _+_, _-_, _≤_, _<_, min}
+use Prim.Native.Nat.{ℕ, zero, suc, _+_, _-_, _≤_, _<_}
 use native.Mathlib.Omega.{arith}
 use lib.ListN.{length, getD, take, drop, length-take}
 use lib.Seq.{getD-take}
@@ -15,7 +14,7 @@ use Rattle.ground.specs.Numbers.{firstFault, outcome, done, illFormed, badSize,
 use Rattle.ground.specs.Slots.{written}
 use Rattle.ground.proofs.Truth.{and-left, and-right}
 use Rattle.ground.specs.Column.{isIn, ascends}
-use Rattle.routes.specs.Row.{Row, row, ListLent, rowsLent, rowsOf, keysOf, hopsOf, listRoom, topRoom}
+use Rattle.routes.specs.Row.{Row, ListLent, rowsLent, rowsOf, keysOf, hopsOf, listRoom, topRoom}
 use Rattle.routes.specs.WellFormed.{wellFormed, halfFormed, ascending}
 use Rattle.routes.specs.Change.{listed}
 use Rattle.routes.proofs.Columns.{length-rows, keys-of-rows}

@@ -1,7 +1,7 @@
 -- Rule 11.9 for run tables, from the contracts alone: where a split was accepted and a run table was built of each half, run lookup in both
 -- tables answers at every address, and the two labels XOR to what plain lookup in the list gives.
 -- Assumes nothing.
-use mathlib.Core.Path.{_≡_, sym, ap, _∙_}
+use mathlib.Core.Path.{_≡_, sym}
 use mathlib.Core.List.{List}
 use Prim.Native.Nat.{ℕ, _<_}
 use lib.Bits.{bitXor}
@@ -9,8 +9,7 @@ use Rattle.ground.specs.Numbers.{done}
 use Rattle.cidr.specs.Prefix.{addresses}
 use Rattle.routes.specs.Row.{ListLent, listLent, rowsLent}
 use Rattle.routes.specs.Plain.{plain}
-use Rattle.routes.specs.Lookup.{LookupOutcome, lookupGave, plainLookup, halfLookup}
-use Rattle.routes.specs.declared.Looked.{Looked}
+use Rattle.routes.specs.Lookup.{plainLookup}
 use Rattle.routes.specs.declared.Looked.the-variants.{Hop}
 use Rattle.runs.specs.declared.Built.the-variants.{Runs}
 use Rattle.runs.specs.declared.Probed.{Probed}
