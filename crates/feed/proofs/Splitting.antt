@@ -100,3 +100,14 @@ no-rows-at-end feed at h = rw (drop-of-length-le feed {i = at} h)
 -- a row ends within the feed
 pub row-ends-within : (feed : List ℕ) (at : ℕ) → at ≤ length feed → at + rowLength (drop at feed) ≤ length feed
 row-ends-within feed at h = omega (arith, row-length-le (drop at feed), length-drop at feed)
+
+-- a feed has no more rows than bytes
+pub rows-at-most : (bs : List ℕ) → length (rowsIn bs) ≤ length bs
+unfolding rowsIn
+rows-at-most [] = zero-le
+rows-at-most (b ∷ bs) = go (eqb b LF) (rowsIn bs) (rows-at-most bs)
+  where
+    go : (t : Bool) (rows : List (List ℕ)) → length rows ≤ length bs → length (cond t ([] ∷ rows) (grown b rows)) ≤ suc (length bs)
+    go true rows l = suc-le-suc l
+    go false [] l = suc-le-suc zero-le
+    go false (r ∷ rows) l = omega arith

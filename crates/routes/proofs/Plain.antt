@@ -6,7 +6,7 @@ use mathlib.Core.Logic.{_⊎_, inl, inr, ⊎-elim}
 use mathlib.Core.Bool.{true, false}
 use mathlib.Core.List.{List, [], _∷_, List·Memᴰ·head, List·Memᴰ·tail, List·Memᴰ·cases-cons, List·Memᴰ·not-nil}
 use mathlib.Core.Option.{none, some}
-use Prim.Native.Nat.{ℕ, _≤_}
+use Prim.Native.Nat.{ℕ, _≤_, zero-le}
 use native.Mathlib.Nat.{le-refl, le-trans, le-of-lt, le-antisymm}
 use borrow.Author.Tests.{leb-true, leb-false}
 use lib.Dec.{leb}
@@ -133,3 +133,7 @@ module _ (rows : List Row) (a : ℕ) where
   -- Rule 2.6: an answer of 0 means that no listed prefix holds the address, since no listed hop is 0.
   pub plain-zero : ((r : Row) → Has r rows → r .hop ≡ 0 → ⊥) → plain rows a ≡ 0 → NoMatch rows a
   plain-zero given z = ⊎-elim (λ w. w .0) (λ w. absurd (given (w .0) (w .1 .listed) (sym (w .2) ∙ z))) plain-cases
+
+  -- no answer is greater than every listed hop
+  pub plain-at-most : (most : ℕ) → ((r : Row) → Has r rows → r .hop ≤ most) → plain rows a ≤ most
+  plain-at-most most h = ⊎-elim (λ w. rw (w .1) zero-le) (λ w. rw (w .2) (h (w .0) (w .1 .listed))) plain-cases

@@ -1,25 +1,24 @@
--- A walk along a list's rows, that counts the bytes of their texts or puts the texts one behind the other. It has the rows from its place on
--- before it: what it does with those completes what was done with the rows before.
+-- A walk along a list's rows, that counts the bytes of their texts or puts the texts one behind the other. It has the rows from its place
+-- on before it: what it does with those completes what was done with the rows before.
 -- Assumes nothing.
-use mathlib.Core.Path.{_≡_, refl, sym, ap, _∙_}
+use mathlib.Core.Path.{_≡_, refl, ap, _∙_}
 use mathlib.Core.Bool.{true}
-use mathlib.Core.List.{List, [], _∷_, _++_}
+use mathlib.Core.List.{List, [], _++_}
 use Prim.Native.Nat.{ℕ, _+_, _*_, _/_, _≤_, _<_}
-use native.Mathlib.Nat.{add-zero}
 use native.Mathlib.Omega.{arith}
-use lib.Dec.{leb, ltb, eqb}
+use lib.Dec.{leb, ltb}
 use lib.ListN.{length, getD, length-append}
 use borrow.Author.Tests.{ltb-true}
 use Rattle.ground.proofs.Truth.{and-left, and-right}
-use Rattle.cidr.specs.Prefix.{isPrefix, network, lengthOf, hostBits, addresses}
-use Rattle.routes.specs.Row.{Row, row, rowsOf, listRoom, topRoom}
+use Rattle.cidr.specs.Prefix.{isPrefix, network, lengthOf, addresses}
+use Rattle.routes.specs.Row.{rowsOf, listRoom, topRoom}
 use Rattle.routes.specs.WellFormed.{prefixes, ascending, hopsGiven, halfRows, goodRows, wellFormed}
 use Rattle.routes.proofs.RowsOf.{rowAt, every-at}
 use Rattle.routes.proofs.Rest.{rest, rest-start, rest-next, rest-end}
 use Rattle.routes.proofs.ListTest.{well-half, half-room}
 use Rattle.runs.proofs.WholeList.{in-keys, in-hops}
 use Rattle.text.specs.Text.{rowText, textOf}
-use Rattle.text.specs.Inside.Putting.{Wrote, Fits, placed, Put}
+use Rattle.text.specs.Inside.Putting.{Wrote, Fits, Put}
 use Rattle.text.proofs.Putting.{put-none, put-front, first-fits, rest-fits, put-then, put-long}
 
 -- a well-formed list has no more rows than the top room
@@ -28,7 +27,8 @@ unfolding listRoom
 in-top count keys hops e = omega (arith, half-room count keys hops (well-half count keys hops e))
 
 -- the network of each row's key is an address
-pub network-small : (count : ℕ) (keys hops : List ℕ) → wellFormed count keys hops ≡ true → (i : ℕ) → i < count → getD keys i 0 / 64 < addresses
+pub network-small : (count : ℕ) (keys hops : List ℕ) → wellFormed count keys hops ≡ true
+    → (i : ℕ) → i < count → getD keys i 0 / 64 < addresses
 unfolding wellFormed goodRows halfRows prefixes isPrefix
 network-small count keys hops e i l =
     let rows = rowsOf count keys hops in
@@ -65,7 +65,8 @@ pub counting-start : (count : ℕ) (keys hops : List ℕ) → Counting count key
 counting-start count keys hops =
     record { within = omega arith; few = omega arith; whole = omega (arith, ap length (ahead-start count keys hops)) }
 
-module _ {count : ℕ} {keys hops : List ℕ} (well : wellFormed count keys hops ≡ true) {bytes i : ℕ} (s : Counting count keys hops bytes i) where
+module _ {count : ℕ} {keys hops : List ℕ} (well : wellFormed count keys hops ≡ true) {bytes i : ℕ}
+    (s : Counting count keys hops bytes i) where
   pub counting-next : {n : ℕ} → i < count → n ≡ length (rowText (rowAt keys hops i)) → n ≤ 40 → Counting count keys hops (bytes + n) (i + 1)
   counting-next {n} l e small =
       let text = rowText (rowAt keys hops i) in

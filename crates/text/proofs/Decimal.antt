@@ -4,8 +4,8 @@
 use mathlib.Core.Path.{_≡_, refl, sym, ap, _∙_}
 use mathlib.Core.Logic.{⊎-elim}
 use mathlib.Core.Bool.{Bool, true, false}
-use mathlib.Core.List.{List, [], _∷_, _++_}
-use Prim.Native.Nat.{ℕ, zero, suc, _+_, _*_, _/_, _%_, _^_, _≤_, _<_}
+use mathlib.Core.List.{[], _∷_, _++_}
+use Prim.Native.Nat.{ℕ, zero, suc, _+_, _/_, _%_, _^_, _≤_, _<_}
 use native.Mathlib.Nat.{not-suc-le-zero, pow-suc, one-le-pow}
 use native.Mathlib.Omega.{arith}
 use lib.ListN.{length, length-append}
@@ -60,7 +60,8 @@ digits-step n l = ap length (decimal-step n l) ∙ length-append (decimal (n / 1
 
 pub one-digit : (n : ℕ) → 1 ≤ length (decimal n)
 one-digit n =
-    ⊎-elim (λ e. omega (arith, digits-small n (ltb-true n 10 e))) (λ e. omega (arith, digits-step n (ltb-false n 10 e))) (decided (ltb n 10))
+    ⊎-elim (λ e. omega (arith, digits-small n (ltb-true n 10 e))) (λ e. omega (arith, digits-step n (ltb-false n 10 e)))
+    (decided (ltb n 10))
 
 -- a number that reaches a power of 10 has more digits than that has zeros, and one below a power has at most as many
 pub digits-at-least : (k n : ℕ) → 10 ^ k ≤ n → suc k ≤ length (decimal n)

@@ -6,7 +6,7 @@ use Prim.Native.Nat.{ℕ, suc, _+_, _-_, _/_, _%_, _≤_, _<_}
 use native.Mathlib.Nat.{add-zero, zero-add}
 use native.Mathlib.Omega.{arith}
 use lib.ListN.{length, take, drop, set, length-append, length-take, length-drop, drop-of-length-le, take-append-drop}
-use lib.Seq.{take-at, drop-at, drop-drop, drop-append-add, drop-cons, set-at, take-all}
+use lib.Seq.{take-at, drop-drop, drop-append-add, drop-cons, set-at, take-all}
 use Rattle.ground.specs.Slots.{written}
 use Rattle.ground.proofs.Slots.{length-written, written-more}
 use Rattle.text.specs.Text.{decimal}
@@ -33,7 +33,8 @@ module _ {text old new : List ℕ} {r : ℕ} (w : Wrote text r old new) where
   }
 
 -- the digits of a number, from its first one on
-pub wrote-first : {old : List ℕ} (n : ℕ) {d : ℕ} → n < 10 → length (decimal n) ≤ length old → d ≡ 48 + n → Wrote (decimal n) 1 old (set old 0 d)
+pub wrote-first : {old : List ℕ} (n : ℕ) {d : ℕ} → n < 10 → length (decimal n) ≤ length old → d ≡ 48 + n
+    → Wrote (decimal n) 1 old (set old 0 d)
 wrote-first {old} n {d} l room e =
     rw (decimal-small n l, sym e) (wrote-byte (wrote-none old) d (omega (arith, digits-small n l)))
 
@@ -79,7 +80,15 @@ pub placed-byte : (at : ℕ) (text old : List ℕ) (v : ℕ) → at + length tex
     → set (placed at text old) (at + length text) v ≡ placed at (text ++ v ∷ []) old
 unfolding placed
 placed-byte at text old v l =
-    rw (drop-cons old (at + length text) 0 l, ← append-assoc (take at old) text, set-at front _ _ v (at + length text) long, append-assoc, append-assoc, length-append, one-more)
+    rw (
+      drop-cons old (at + length text) 0 l,
+      ← append-assoc (take at old) text,
+      set-at front _ _ v (at + length text) long,
+      append-assoc,
+      append-assoc,
+      length-append,
+      one-more,
+    )
   where
     one-more : suc (at + length text) ≡ at + (length text + 1)
     one-more = omega arith

@@ -10,7 +10,8 @@ use Rattle.text.specs.Text.{decimal, dottedText, rowText, textOf}
 use Rattle.text.proofs.Decimal.{digits-at-most}
 
 pub length-dotted : (a : ℕ) → length (dottedText a)
-    ≡ length (decimal (a / 16777216)) + length (decimal (a / 65536 % 256)) + length (decimal (a / 256 % 256)) + length (decimal (a % 256)) + 3
+    ≡ length (decimal (a / 16777216)) + length (decimal (a / 65536 % 256)) + length (decimal (a / 256 % 256))
+    + length (decimal (a % 256)) + 3
 unfolding dottedText
 length-dotted a = simp length-append (omega arith)
 

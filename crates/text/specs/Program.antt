@@ -8,6 +8,7 @@ use Prim.Native.Char.{code}
 use Prim.Native.String.{String, [] as no-text, _∷_ as _then_}
 use lib.ListN.{length}
 use lib.Dec.{ltb}
+use Rattle.ground.specs.Slots.{written}
 use Rattle.feed.specs.Rows.{LF, space}
 use Rattle.feed.specs.declared.Counts.{Counts}
 use Rattle.feed.specs.RowNumber.{NamedRow, rowNames, countsOf, rowsWith}
@@ -54,3 +55,16 @@ programText feed =
     (bytes "feed too long\n")
     (countLines (countsOf (rowNumbers programRoom feed))
     ++ runLines (runStarts (importedList programRoom feed)) (runHops (importedList programRoom feed)))
+
+-- what `program_text` returns and leaves, the length of the text and the buffer
+pub record ProgramOutcome : Type 0 where
+  pub length : ℕ
+  pub buffer : List ℕ
+
+-- read from the code's answer and the buffer at exit
+abbrev pub programGave : ℕ → List ℕ → ProgramOutcome
+programGave n buffer = record { length = n; buffer = buffer }
+
+-- Rules 13.1 to 13.4: the text at the front of a buffer, which has room for the text of any feed.
+unfoldable pub program : List ℕ → List ℕ → ProgramOutcome
+program feed buffer = record { length = length (programText feed); buffer = written (programText feed) buffer }

@@ -1,5 +1,6 @@
 // The list as text, as the list writer puts it and as the feed reads it back, and the text that the program writes for a feed.
 // Whether a list is well-formed is `routes`'s to say; what is read, and where the bytes go, is the caller's business.
+pub mod program;
 mod put;
 mod size;
 

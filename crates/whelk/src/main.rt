@@ -1,57 +1,12 @@
-// Rules 13.1 to 13.4: the program. It imports a feed from standard input and writes the counts, a line each, and the run table of the
-// imported list, a line a run.
+// Rules 13.1 to 13.4: the program. It reads a feed from standard input and writes what `text::program` makes of it, every byte of which is
+// proved. Only reading and writing are left here, of which no contract can speak.
 ghost use Rattle.io.specs.Counts.{Counts as AtFront};
-use feed::Counts;
-use feed::ImportEnd;
+use libc::STDERR_FILENO;
 use libc::STDIN_FILENO;
-use runs::Built;
-
-// Rule 13.1: the most bytes that a feed may have.
-const LONGEST_FEED: usize = 16384;
-
-// Rule 13.2: the room of the list. Rule 6.5: the most runs that so many rows make.
-const ROWS: usize = 1024;
-
-const RUNS: usize = 2 * ROWS + 1;
-
-// Rule 13.3: the counts, a line each.
-fn counts(c: Counts) {
-    print::line(b"rows", c.rows as u64);
-    print::line(b"taken", c.of[feed::TAKEN as usize] as u64);
-    print::line(b"shape", c.of[feed::SHAPE as usize] as u64);
-    print::line(b"range", c.of[feed::RANGE as usize] as u64);
-    print::line(b"hostbits", c.of[feed::HOST_BITS as usize] as u64);
-    print::line(b"repeat", c.of[feed::REPEAT as usize] as u64);
-    print::line(b"noroom", c.of[feed::NO_ROOM_LEFT as usize] as u64);
-}
-
-// Rule 13.4: the run table of a list. A list of 1,024 rows has at most 2,049 runs, so the room is always enough.
-fn table(count: usize, keys: &[u64], hops: &[u16]) {
-    let mut starts = [0u32; RUNS];
-    let mut rhops = [0u16; RUNS];
-    let Built::Runs(n) = runs::build(count, keys, hops, &mut starts, &mut rhops) else {
-        print::text(b"run table refused\n");
-        return;
-    };
-    print::runs(n, &starts, &rhops);
-}
-
-// What the program writes for a feed that isn't too long. Such a feed has at most 16,384 rows, so the report is always long enough.
-fn answer(feed: &[u8]) {
-    let mut keys = [0u64; ROWS];
-    let mut hops = [0u16; ROWS];
-    let mut report = [0u8; LONGEST_FEED];
-    let i = feed::import(feed, &mut keys, &mut hops, &mut report);
-    let end = i.end;
-    let ImportEnd::Done = end else {
-        print::text(b"import refused\n");
-        return;
-    };
-    let c = i.counts;
-    let count = c.of[feed::TAKEN as usize];
-    counts(c);
-    table(count, &keys, &hops);
-}
+use libc::STDOUT_FILENO;
+use text::program::LONGEST_FEED;
+use text::program::PROGRAM_TEXT;
+use text::program::program_text;
 
 // How many bytes were read, and whether a read failed.
 struct Fed {
@@ -88,18 +43,23 @@ fn read_feed(input: &mut [u8]) -> Fed
     }
 }
 
+// Writes to standard output. A write that fails is said on standard error.
+fn write(bytes: &[u8]) {
+    if !io::write_all(STDOUT_FILENO, bytes) {
+        io::write_all(STDERR_FILENO, b"whelk: write failed\n");
+    }
+}
+
 // Rule 13.1: one byte more is asked for, so that a feed that is too long is known.
 fn main() {
     let mut input = [0u8; LONGEST_FEED + 1];
     let fed = read_feed(&mut input);
     if fed.failed {
-        print::text(b"read failed\n");
+        write(b"read failed\n");
         return;
     }
     let n = fed.bytes;
-    if LONGEST_FEED < n {
-        print::text(b"feed too long\n");
-        return;
-    }
-    answer(&input[..n]);
+    let mut out = [0u8; PROGRAM_TEXT];
+    let bytes = program_text(&input[..n], &mut out);
+    write(&out[..bytes]);
 }

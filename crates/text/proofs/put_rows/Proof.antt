@@ -33,7 +33,9 @@ shared-slice-read-row-2 c =
     omega (arith, in-hops _ _ _ (well-half _ _ _ (c .before .before .before .before .before .before .before .before .pre .0)))
 
 row-requires : tie.Need-row-requires Inv-loop μ-loop
-row-requires c κs = row-fits (c .before .before .before .before .before .before .before .before .pre .0) (c .before .before .before .before .loop .inv) (c .before .before .before .loop-test .taken)
+row-requires c κs =
+    let turn = c .before .before .before .before in
+    row-fits (turn .before .before .before .before .pre .0) (turn .loop .inv) (c .before .before .before .loop-test .taken)
 
 add-i : tie.Need-add-i Inv-loop μ-loop
 add-i c = omega arith

@@ -1,5 +1,5 @@
--- `text::text_length` meets its contract. What was counted and the length of the text ahead make the whole. The measure is how many rows are
--- left.
+-- `text::text_length` meets its contract. What was counted and the length of the text ahead make the whole. The measure is how many rows
+-- are left.
 -- Assumes nothing.
 use Prim.Native.Nat.{_-_}
 use native.Mathlib.Omega.{arith}
@@ -45,7 +45,9 @@ loop-less : tie.Need-loop-less Inv-loop μ-loop
 loop-less c = omega arith
 
 loop-again : tie.Need-loop-again Inv-loop μ-loop
-loop-again c = let st = c .before .before .before .before .before .before .before in counting-next (st .pre) (c .before .before .before .before .loop .inv) (omega arith) (c .of-row .ensures .0) (c .of-row .ensures .1)
+loop-again c =
+    let turn = c .before .before .before .before in
+    counting-next (turn .before .before .before .pre) (turn .loop .inv) (omega arith) (c .of-row .ensures .0) (c .of-row .ensures .1)
 
 returns : tie.Need-returns Inv-loop μ-loop
 returns c = counting-end (c .before .before .before .before .pre) (c .before .loop .inv) (omega arith)

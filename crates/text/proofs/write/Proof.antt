@@ -20,7 +20,8 @@ list-ok-requires : tie.Need-list-ok-requires
 list-ok-requires c κs = search needs
 
 -- what the branch past the list test knows, and the one past the measuring
-ok : (c : tie.Else1) → let a = c .before .before .before .before .before .args in wellFormed (a .count) (now (a .keys)) (now (a .hops)) ≡ true
+ok : (c : tie.Else1) → let a = c .before .before .before .before .before .args in
+    wellFormed (a .count) (now (a .keys)) (now (a .hops)) ≡ true
 ok c = list-test _ _ _ (c .before .list-ok .ensures) ∙ not-false _ (c .if1 .left)
 
 fits : (c : tie.Else2) → let a = c .before .before .before .before .before .before .before .args in

@@ -63,7 +63,9 @@ decimal-decimal-requires : (t : ℕ) → decimal-lts.Need-decimal-requires (
   digit-reads.Asked,
   digit-reads.Learnt,
 ) (decimal-at t) decimal.Post
-decimal-decimal-requires t c κs = let st = c .before .before .before in (omega (arith, st .pre .0), omega (arith, st .pre .1, digits-step (st .args .n) (omega arith)))
+decimal-decimal-requires t c κs =
+    let st = c .before .before .before in
+    (omega (arith, st .pre .0), omega (arith, st .pre .1, digits-step (st .args .n) (omega arith)))
 
 decimal-digit-requires : (t : ℕ) → decimal-lts.Need-digit-requires (
   short-reads.Asked,
@@ -115,7 +117,10 @@ decimal-returns-2 : (t : ℕ) → decimal-lts.Need-returns-2 (
   digit-reads.Asked,
   digit-reads.Learnt,
 ) (decimal-at t) decimal.Post
-decimal-returns-2 t c = let st = c .before .before .before .before .before .before .before in wrote-digit (st .args .n) (omega arith) (st .pre .1) (c .digit .ensures) (c .before .before .before .decimal .ensures)
+decimal-returns-2 t c =
+    let called = c .before .before .before in
+    let st = called .before .before .before .before in
+    wrote-digit (st .args .n) (omega arith) (st .pre .1) (c .digit .ensures) (called .decimal .ensures)
 
 pub +decimal-spec : {M : Type 1} → statement M
 +decimal-spec = close μ-decimal λ t. decimal-lts.spec (

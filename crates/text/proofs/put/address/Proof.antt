@@ -30,7 +30,8 @@ unfolding dottedText
 octets a mark = simp append-assoc
 
 -- each has room behind those before it
-fits : (c : tie.Start) → Fits (c .args .at) (numberText (c .args .a / 16777216) 46 ++ second (c .args .a) (c .args .mark)) (c .args .out .now)
+fits : (c : tie.Start) → let s = c .args in
+    Fits (s .at) (numberText (s .a / 16777216) 46 ++ second (s .a) (s .mark)) (s .out .now)
 fits c = record { room = omega (arith, c .pre .room, ap length (octets (c .args .a) (c .args .mark))) }
 
 abbrev at-1 : tie.After-number → tie.Start

@@ -34,7 +34,9 @@ digit-requires-3 : tie.Need-digit-requires-3
 digit-requires-3 c κs = search needs
 
 slice-write-out-3 : tie.Need-slice-write-out-3
-slice-write-out-3 c = let st = c .before .before .before .before .before in simp length-set (omega (arith, digits-at-least 1 (st .args .n) (omega arith)))
+slice-write-out-3 c =
+    let st = c .before .before .before .before .before in
+    simp length-set (omega (arith, digits-at-least 1 (st .args .n) (omega arith)))
 
 same-length-2 : tie.Need-same-length-2
 same-length-2 c = search needs
@@ -42,8 +44,10 @@ same-length-2 c = search needs
 returns-2 : tie.Need-returns-2
 returns-2 c =
     let st = c .before .before .before .before .before in
-    wrote-digit (st .args .n) (omega arith) (st .pre .1) (c .digit3 .ensures)
-    (wrote-first (st .args .n / 10) (omega arith) (omega (arith, digits-at-least 1 (st .args .n) (omega arith), digits-small (st .args .n / 10) (omega arith))) (c .before .digit2 .ensures))
+    let n = st .args .n in
+    let room = digits-at-least 1 n (omega arith) in
+    wrote-digit n (omega arith) (st .pre .1) (c .digit3 .ensures)
+    (wrote-first (n / 10) (omega arith) (omega (arith, room, digits-small (n / 10) (omega arith))) (c .before .digit2 .ensures))
 
 digit-requires-4 : tie.Need-digit-requires-4
 digit-requires-4 c κs = search needs
@@ -55,13 +59,17 @@ digit-requires-5 : tie.Need-digit-requires-5
 digit-requires-5 c κs = search needs
 
 slice-write-out-5 : tie.Need-slice-write-out-5
-slice-write-out-5 c = let st = c .before .before .before .before .before in simp length-set (omega (arith, digits-at-least 1 (st .args .n) (omega arith)))
+slice-write-out-5 c =
+    let st = c .before .before .before .before .before in
+    simp length-set (omega (arith, digits-at-least 1 (st .args .n) (omega arith)))
 
 digit-requires-6 : tie.Need-digit-requires-6
 digit-requires-6 c κs = search needs
 
 slice-write-out-6 : tie.Need-slice-write-out-6
-slice-write-out-6 c = let st = c .before .before .before .before .before .before in simp length-set (omega (arith, digits-at-least 2 (st .args .n) (omega arith)))
+slice-write-out-6 c =
+    let st = c .before .before .before .before .before .before in
+    simp length-set (omega (arith, digits-at-least 2 (st .args .n) (omega arith)))
 
 same-length-3 : tie.Need-same-length-3
 same-length-3 c = search needs
@@ -71,9 +79,10 @@ returns-3 c =
     let st = c .before .before .before .before .before .before in
     let n = st .args .n in
     let room = digits-at-least 2 n (omega arith) in
+    let few = digits-small (n / 10 / 10) (omega arith) in
     wrote-digit n (omega arith) (st .pre .1) (c .digit6 .ensures)
-    (wrote-digit (n / 10) (omega arith) (omega (arith, room, digits-step (n / 10) (omega arith), digits-small (n / 10 / 10) (omega arith))) (c .before .digit5 .ensures)
-    (wrote-first (n / 10 / 10) (omega arith) (omega (arith, room, digits-small (n / 10 / 10) (omega arith))) (omega (arith, c .before .before .digit4 .ensures))))
+    (wrote-digit (n / 10) (omega arith) (omega (arith, room, few, digits-step (n / 10) (omega arith))) (c .before .digit5 .ensures)
+    (wrote-first (n / 10 / 10) (omega arith) (omega (arith, room, few)) (omega (arith, c .before .before .digit4 .ensures))))
 
 pub short-spec : {M : Type 1} → statement M
 short-spec =
