@@ -1,5 +1,5 @@
-// Text on standard output: numbers, addresses, prefixes and run tables. No contract can say what a program wrote; the programs' stored
-// output tests it.
+// Text on standard output: numbers, addresses, prefixes and run tables, for `figures`. No contract can say what a program wrote; the
+// program's stored output tests it.
 use libc::STDOUT_FILENO;
 
 // Some bytes as they are.
