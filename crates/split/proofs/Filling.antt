@@ -34,14 +34,17 @@ module _ {xs old out : List ℕ} {i : ℕ} (f : Filling xs old out i) where
   filling-next {v} l e = record {
     upto = omega arith;
     room = f .room;
-    is = rw (f .is, e, add-one, take-suc xs i 0 l) (ap (λ n. set (written (take i xs) old) n (getD xs i 0)) (sym there) ∙ written-more (take i xs) old (getD xs i 0) (omega (arith, there, f .room)));
+    is = rw (f .is, e, add-one, take-suc xs i 0 l)
+        (ap (λ n. set (written (take i xs) old) n (getD xs i 0)) (sym there)
+        ∙ written-more (take i xs) old (getD xs i 0) (omega (arith, there, f .room)));
   }
 
   pub filling-end : length xs ≤ i → out ≡ written xs old
   filling-end l = f .is ∙ ap (λ ys. written ys old) (take-all i xs l)
 
 pub first-then : (old : List ℕ) (v : ℕ) {k : ℕ} (xs : List ℕ) {part : List ℕ} → 0 < length old → k ≡ length (set old 0 v) - 1
-    → part ≡ written xs (take k (drop 1 (set old 0 v))) → take 1 (set old 0 v) ++ (part ++ drop k (drop 1 (set old 0 v))) ≡ written (v ∷ xs) old
+    → part ≡ written xs (take k (drop 1 (set old 0 v)))
+    → take 1 (set old 0 v) ++ (part ++ drop k (drop 1 (set old 0 v))) ≡ written (v ∷ xs) old
 unfolding written
 first-then [] v xs l e p = absurd (omega arith)
 first-then (o ∷ os) v {k} xs l e p =

@@ -64,7 +64,8 @@ module _ {keys hops : List ℕ} (s : Sorted keys hops) {k : ℕ} (within : k ≤
   network-climbs : (i j : ℕ) → i < j → j < length keys → network (getD keys i 0) ≤ network (getD keys j 0)
   network-climbs i j l m = omega (arith, climbs s i j l m)
 
-  pub first-behind : (j : ℕ) → k ≤ j → j < length keys → (i : ℕ) → i < length (take k keys) → network (getD (take k keys) i 0) ≤ network (getD keys j 0)
+  pub first-behind : (j : ℕ) → k ≤ j → j < length keys
+      → (i : ℕ) → i < length (take k keys) → network (getD (take k keys) i 0) ≤ network (getD keys j 0)
   first-behind j l m i lt =
       let small : i < k = omega (arith, length-take k keys) in
       rw (getD-take k keys i 0 small) (network-climbs i j (omega arith) m)

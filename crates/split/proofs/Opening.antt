@@ -28,15 +28,17 @@ opening-start s e = record {
   reached = λ to h. omega (arith, e .0);
 }
 
-module _ {keys hops ends open-hops : List ℕ} {row depth at to : ℕ} (o : Opening keys hops ends open-hops row depth at) (l : row < length keys)
-    (here : to ≡ network (getD keys row 0)) where
+module _ {keys hops ends open-hops : List ℕ} {row depth at to : ℕ} (o : Opening keys hops ends open-hops row depth at)
+    (l : row < length keys) (here : to ≡ network (getD keys row 0)) where
   pub may-step : Sorted keys hops × Stack keys hops ends open-hops row depth at to × (at ≤ to)
   may-step = (o .sorted, onward (o .sorted) (o .stack) to (λ m. omega arith), omega (arith, o .stack .ahead row (omega arith) l))
 
-  module _ {ends′ open-hops′ : List ℕ} {row′ depth′ at′ : ℕ} (moved : (at′ ≡ to) × Stack keys hops ends′ open-hops′ row′ depth′ to (to + 1)) where
+  module _ {ends′ open-hops′ : List ℕ} {row′ depth′ at′ : ℕ}
+      (moved : (at′ ≡ to) × Stack keys hops ends′ open-hops′ row′ depth′ to (to + 1)) where
     pub opened-more : row < row′
     opened-more =
-        ⊎-elim (λ e. absurd (omega (arith, moved .1 .ahead row (leb-true row′ row e) l))) (λ e. leb-false row′ row e) (decided (leb row′ row))
+        ⊎-elim (λ e. absurd (omega (arith, moved .1 .ahead row (leb-true row′ row e) l))) (λ e. leb-false row′ row e)
+        (decided (leb row′ row))
 
     pub opening-next : Opening keys hops ends′ open-hops′ row′ depth′ at′
     opening-next = record {

@@ -46,11 +46,14 @@ unfolding ascending
 default-first count keys hops well l =
     let half = well-half count keys hops well in
     let keys-are = keys-of-rows count keys hops (in-keys count keys hops half) (in-hops count keys hops half) in
-    ap (isIn 0) keys-are ∙ zero-first (take count keys) (rw keys-are at sorted) (simp length-take (omega (arith, in-keys count keys hops half)))
+    ap (isIn 0) keys-are
+    ∙ zero-first (take count keys) (rw keys-are at sorted) (simp length-take (omega (arith, in-keys count keys hops half)))
     ∙ ap (λ n. eqb n 0) (getD-take count keys 0 0 l)
   where
     sorted : ascends (keysOf (rowsOf count keys hops)) ≡ true
-    sorted = let half = well-half count keys hops well in rw (slices-rows count keys hops half) at (in-order (slices-sorted count keys hops half))
+    sorted =
+        let half = well-half count keys hops well in
+        rw (slices-rows count keys hops half) at (in-order (slices-sorted count keys hops half))
 
 -- the keys of the second half are 0 and the list's from place k on
 kept-keys : (first rows : List Row) → keysOf (map (relabelled first) rows) ≡ keysOf rows
@@ -131,7 +134,8 @@ module _ (k : ℕ) (l : ListLent) (out : SplitLent) where
           enough = omega (arith, counted, second-fits k l well some upto .1)
 
           pub split-done : {keys labels : List ℕ} → keys ≡ written (0 ∷ drop k (take (l .count) (l .keys))) (out .keys)
-              → labels ≡ written (0 ∷ labelsFrom k (rowsLent l)) (out .labels) → splitInto done (l .count - k + 1) keys labels ≡ split k l out
+              → labels ≡ written (0 ∷ labelsFrom k (rowsLent l)) (out .labels)
+              → splitInto done (l .count - k + 1) keys labels ≡ split k l out
           unfolding split splitChecks firstFault outcome
           split-done a b = rw (
             well,

@@ -1,4 +1,5 @@
--- What a split returns and leaves is settled: two outcomes that keep its promise for one input are the same, in the answer and in both slices.
+-- What a split returns and leaves is settled: two outcomes that keep its promise for one input are the same, in the answer and in both
+-- slices.
 -- Assumes nothing.
 use mathlib.Core.Path.{_≡_, refl, sym, ap, _∙_}
 use mathlib.Core.Bool.{cond}

@@ -38,8 +38,10 @@ module _ (k : ℕ) (l : ListLent) (out : SplitLent) {n : ℕ} {keys labels : Lis
       let joined = split-then-lookup k l out e a in
       let one = first-is k l out e a in
       let other = second-is k l out e a in
-      let found = build-half-then-lookup (listLent k (l .keys) (l .hops)) t b r (Hop (plain (firstHalf k (rowsLent l)) a)) below q (sym one) in
-      let found′ = build-half-then-lookup (listLent n keys labels) t′ b′ r′ (Hop (plain (secondHalf k (rowsLent l)) a)) below q′ (sym other) in
+      let label = plain (firstHalf k (rowsLent l)) a in
+      let label′ = plain (secondHalf k (rowsLent l)) a in
+      let found = build-half-then-lookup (listLent k (l .keys) (l .hops)) t b r (Hop label) below q (sym one) in
+      let found′ = build-half-then-lookup (listLent n keys labels) t′ b′ r′ (Hop label′) below q′ (sym other) in
       record {
         plain-done = joined .plain-done;
         first-done = found .0;

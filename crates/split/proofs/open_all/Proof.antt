@@ -29,13 +29,20 @@ network-requires : tie.Need-network-requires Inv-loop μ-loop
 network-requires c κs = tt
 
 step-requires : tie.Need-step-requires Inv-loop μ-loop
-step-requires c κs = let turn = c .before .before .before .before .before .before in may-step (turn .loop .inv) (omega arith) (c .before .before .network .ensures)
+step-requires c κs =
+    let turn = c .before .before .before .before .before .before in
+    may-step (turn .loop .inv) (omega arith) (c .before .before .network .ensures)
 
 loop-less : tie.Need-loop-less Inv-loop μ-loop
-loop-less c = let turn = c .before .before .before .before .before .before .before in omega (arith, opened-more (turn .loop .inv) (omega arith) (c .before .before .before .network .ensures) (c .step .ensures), c .step .ensures .1 .within)
+loop-less c =
+    let turn = c .before .before .before .before .before .before .before in
+    let more = opened-more (turn .loop .inv) (omega arith) (c .before .before .before .network .ensures) (c .step .ensures) in
+    omega (arith, more, c .step .ensures .1 .within)
 
 loop-again : tie.Need-loop-again Inv-loop μ-loop
-loop-again c = let turn = c .before .before .before .before .before .before .before in opening-next (turn .loop .inv) (omega arith) (c .before .before .before .network .ensures) (c .step .ensures)
+loop-again c =
+    let turn = c .before .before .before .before .before .before .before in
+    opening-next (turn .loop .inv) (omega arith) (c .before .before .before .network .ensures) (c .step .ensures)
 
 returns : tie.Need-returns Inv-loop μ-loop
 returns c = opening-end (c .before .before .loop .inv) (omega arith)

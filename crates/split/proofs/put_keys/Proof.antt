@@ -46,13 +46,18 @@ start c = c .before .before .before .before .before .before .before
 whole : tie.Need-returns
 whole c =
     let st = start c in
-    let rest : take (length (st .args .keys .now) - st .args .k) (drop (st .args .k) (st .args .keys .now)) ≡ drop (st .args .k) (st .args .keys .now)
-    = take-all (length (st .args .keys .now) - st .args .k) (drop (st .args .k) (st .args .keys .now)) (simp length-drop (omega arith)) in
-    first-then (st .args .out .now) 0 (drop (st .args .k) (st .args .keys .now)) (omega arith) refl (rw rest at (c .before .before .copy .ensures))
+    let keys = st .args .keys .now in
+    let k = st .args .k in
+    let rest : take (length keys - k) (drop k keys) ≡ drop k keys
+    = take-all (length keys - k) (drop k keys) (simp length-drop (omega arith)) in
+    first-then (st .args .out .now) 0 (drop k keys) (omega arith) refl (rw rest at (c .before .before .copy .ensures))
 
 same-length : tie.Need-same-length
 same-length c =
-    let st = start c in ap length (whole c) ∙ length-written (0 ∷ drop (st .args .k) (st .args .keys .now)) (st .args .out .now) (omega (arith, length-drop (st .args .k) (st .args .keys .now)))
+    let st = start c in
+    let rest = drop (st .args .k) (st .args .keys .now) in
+    ap length (whole c)
+    ∙ length-written (0 ∷ rest) (st .args .out .now) (omega (arith, length-drop (st .args .k) (st .args .keys .now)))
 
 returns : tie.Need-returns
 returns c = whole c

@@ -26,7 +26,9 @@ part-write-labels-end : tie.Need-part-write-labels-end
 part-write-labels-end c = search needs
 
 write-labels-requires : tie.Need-write-labels-requires
-write-labels-requires c κs = let pre = c .before .before .before .before .pre in (pre .0, record { some = pre .1; within = pre .2; room = simp (length-take, length-drop, length-set) (omega arith) })
+write-labels-requires c κs =
+    let pre = c .before .before .before .before .pre in
+    (pre .0, record { some = pre .1; within = pre .2; room = simp (length-take, length-drop, length-set) (omega arith) })
 
 abbrev start : tie.After-slice-known2 → tie.Start
 start c = c .before .before .before .before .before .before .before

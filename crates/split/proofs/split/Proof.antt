@@ -1,5 +1,5 @@
--- `split::split` meets its contract: 11 where the list test fails, 17, 18 by the first key, 13 by the two slices, and else what `put_keys` and
--- `put_labels` leave.
+-- `split::split` meets its contract: 11 where the list test fails, 17, 18 by the first key, 13 by the two slices, and else what `put_keys`
+-- and `put_labels` leave.
 -- Assumes nothing.
 use mathlib.Core.Path.{_≡_, sym, _∙_}
 use mathlib.Core.Bool.{true}
@@ -15,7 +15,8 @@ use Rattle.routes.specs.Change.{listed}
 use Rattle.routes.proofs.ListTest.{well-half}
 use Rattle.runs.proofs.WholeList.{list-test, in-keys, in-hops, slices-rows, slices-sorted}
 use Rattle.split.specs.Split.{defaultKey}
-use Rattle.split.proofs.Outcome.{default-first, split-ill, split-no-size, split-big-size, split-no-default, split-short-keys, split-short-labels, split-done}
+use Rattle.split.proofs.Outcome.{default-first, split-ill, split-no-size, split-big-size, split-no-default}
+use Rattle.split.proofs.Outcome.{split-short-keys, split-short-labels, split-done}
 use borrow.Author.Needs.{needs}
 use Rattle.split.proofs.split.Statement.{statement}
 use Rattle.split.proofs.split.Tie as tie
@@ -24,7 +25,8 @@ list-ok-requires : tie.Need-list-ok-requires
 list-ok-requires c κs = search needs
 
 -- what the branches know: past the list test, past the size, and past the first key
-ok : (c : tie.Else1) → let a = c .before .before .before .before .before .before .args in wellFormed (a .count) (now (a .keys)) (now (a .hops)) ≡ true
+ok : (c : tie.Else1) → let a = c .before .before .before .before .before .before .args in
+    wellFormed (a .count) (now (a .keys)) (now (a .hops)) ≡ true
 ok c = list-test _ _ _ (c .before .list-ok .ensures) ∙ not-false _ (c .if1 .left)
 
 abbrev past-list : tie.Else3 → tie.Else1
@@ -110,8 +112,8 @@ returns-7 c =
     let keyed = c .before .before .before .before .before .before .before .before in
     let room = keyed .before .before .before in
     let d = past-first room in
-    split-done _ _ _ (ok (past-list (past-size d))) (omega arith) (omega arith) (has-default d) (omega arith) (omega arith) (keyed .put-keys .ensures)
-    (rw (slices-rows _ _ _ (fine room)) at (c .before .before .put-labels .ensures))
+    split-done _ _ _ (ok (past-list (past-size d))) (omega arith) (omega arith) (has-default d) (omega arith) (omega arith)
+    (keyed .put-keys .ensures) (rw (slices-rows _ _ _ (fine room)) at (c .before .before .put-labels .ensures))
 
 pub split-spec : {M : Type 1} → statement M
 split-spec =

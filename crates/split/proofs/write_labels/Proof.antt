@@ -1,12 +1,13 @@
--- `split::write_labels` meets its contract: at each row from place k on the sweep over the first half moves on to its network, where the last
--- open hop is the first half's answer. The measure is how many rows are left.
+-- `split::write_labels` meets its contract: at each row from place k on the sweep over the first half moves on to its network, where the
+-- last open hop is the first half's answer. The measure is how many rows are left.
 -- Assumes nothing.
 use mathlib.Core.Path.{refl, sym}
 use Prim.Native.Nat.{_-_, _≤_}
 use native.Mathlib.Omega.{arith}
 use lib.ListN.{length}
 use lib.Seq.{length-take-le}
-use Rattle.split.proofs.Labelling.{first-sorted, Labelling, labelling-start, free-slot, few-slots, may-go, may-look, labelling-next, labelling-end}
+use Rattle.split.proofs.Labelling.{first-sorted, Labelling, labelling-start, free-slot, few-slots, may-go, may-look}
+use Rattle.split.proofs.Labelling.{labelling-next, labelling-end}
 use Rattle.split.proofs.Filling.{filling-long}
 use Rattle.split.proofs.write_labels.Statement.{statement}
 use Rattle.split.proofs.write_labels.Tie as tie
@@ -32,13 +33,19 @@ slice-aggregate-first-keys : tie.Need-slice-aggregate-first-keys Inv-loop μ-loo
 slice-aggregate-first-keys c = sym (length-take-le _ _ (c .before .before .before .before .pre .1 .within))
 
 slice-aggregate-first-hops : tie.Need-slice-aggregate-first-hops Inv-loop μ-loop
-slice-aggregate-first-hops c = let pre = c .before .before .before .before .before .pre in sym (length-take-le _ _ (omega (arith, pre .0 .paired, pre .1 .within)))
+slice-aggregate-first-hops c =
+    let pre = c .before .before .before .before .before .pre in
+    sym (length-take-le _ _ (omega (arith, pre .0 .paired, pre .1 .within)))
 
 open-all-requires : tie.Need-open-all-requires Inv-loop μ-loop
-open-all-requires c κs = let pre = c .before .before .before .before .before .before .before .pre in (first-sorted (pre .0) (pre .1 .within), refl, refl)
+open-all-requires c κs =
+    let pre = c .before .before .before .before .before .before .before .pre in
+    (first-sorted (pre .0) (pre .1 .within), refl, refl)
 
 loop-holds : tie.Need-loop-holds Inv-loop μ-loop
-loop-holds c = let pre = c .before .before .before .before .before .before .before .before .pre in labelling-start (pre .0) (pre .1) (c .open-all .ensures)
+loop-holds c =
+    let pre = c .before .before .before .before .before .before .before .before .pre in
+    labelling-start (pre .0) (pre .1) (c .open-all .ensures)
 
 mul-network : tie.Need-mul-network Inv-loop μ-loop
 mul-network c = omega arith
@@ -50,7 +57,9 @@ network-requires : tie.Need-network-requires Inv-loop μ-loop
 network-requires c κs = tt
 
 step-requires : tie.Need-step-requires Inv-loop μ-loop
-step-requires c κs = let t = c .before .before .before .before .before in may-go (start t .pre .0) (within t) (t .loop .inv) (omega arith) (c .before .before .network .ensures)
+step-requires c κs =
+    let t = c .before .before .before .before .before in
+    may-go (start t .pre .0) (within t) (t .loop .inv) (omega arith) (c .before .before .network .ensures)
 
 mul-labels : tie.Need-mul-labels Inv-loop μ-loop
 mul-labels c = omega arith
@@ -59,10 +68,15 @@ shared-slice-read-labels : tie.Need-shared-slice-read-labels Inv-loop μ-loop
 shared-slice-read-labels c = omega (arith, start (c .before .before .before .before .before .before .before) .pre .0 .paired)
 
 top-hop-requires : tie.Need-top-hop-requires Inv-loop μ-loop
-top-hop-requires c κs = let t = turn (c .before .before) in may-look (start t .pre .0) (within t) (t .loop .inv) (omega arith) (c .before .before .before .before .before .network .ensures) (c .before .before .step .ensures)
+top-hop-requires c κs =
+    let st = c .before .before in
+    let t = turn st in
+    may-look (start t .pre .0) (within t) (t .loop .inv) (omega arith) (st .before .before .before .network .ensures) (st .step .ensures)
 
 mul-labels-2 : tie.Need-mul-labels-2 Inv-loop μ-loop
-mul-labels-2 c = let t = turn (c .before .before .before) in omega (arith, few-slots (start t .pre .0) (within t) (t .loop .inv) (omega arith))
+mul-labels-2 c =
+    let t = turn (c .before .before .before) in
+    omega (arith, few-slots (start t .pre .0) (within t) (t .loop .inv) (omega arith))
 
 slice-write-labels : tie.Need-slice-write-labels Inv-loop μ-loop
 slice-write-labels c = let t = turn (c .before .before .before) in free-slot (start t .pre .0) (within t) (t .loop .inv) (omega arith)
@@ -80,8 +94,8 @@ loop-again : tie.Need-loop-again Inv-loop μ-loop
 loop-again c =
     let st = c .before .before .before in
     let t = turn st in
-    labelling-next (start t .pre .0) (within t) (t .loop .inv) (omega arith) (st .before .before .before .network .ensures) (st .step .ensures)
-    (c .top-hop .ensures)
+    labelling-next (start t .pre .0) (within t) (t .loop .inv) (omega arith) (st .before .before .before .network .ensures)
+    (st .step .ensures) (c .top-hop .ensures)
 
 same-length : tie.Need-same-length Inv-loop μ-loop
 same-length c = filling-long (c .before .loop .inv .filling)
