@@ -24,5 +24,11 @@ typedef struct whelk_packed packing(uint16_t q, size_t count, const uint64_t *ke
                                     const uint16_t *run_hops, size_t run_hops_length, uint16_t *words, size_t words_length,
                                     uint16_t *bases, size_t bases_length, uint16_t *packed_hops, size_t packed_hops_length);
 packing c_pack, c_pack_by_runs;
+typedef uint64_t splitting(size_t k, size_t count, const uint64_t *keys, size_t keys_length, const uint16_t *hops, size_t hops_length,
+                           uint64_t *half_keys, size_t half_keys_length, uint16_t *labels, size_t labels_length);
+splitting c_split;
+typedef uint64_t building(size_t count, const uint64_t *keys, size_t keys_length, const uint16_t *labels, size_t labels_length,
+                          uint32_t *starts, size_t starts_length, uint16_t *run_labels, size_t run_labels_length);
+building c_build_half;
 
 #endif

@@ -16,10 +16,10 @@ extern "C" {
 #endif
 
 /* What became of a call. A call with another number than 0 is refused: it writes nothing, and whatever else it returns is 0. The calls below
-   return 0, 11 to 14 or 19; the other numbers are for calls to come. */
+   return 0, 11 to 14 or 17 to 19; the other numbers are for calls to come. */
 enum whelk_number {
     WHELK_DONE = 0,           /* the call is done */
-    WHELK_ILL_FORMED = 11,    /* the list is ill-formed, or there are more runs than were lent; in a run lookup, no runs too */
+    WHELK_ILL_FORMED = 11,    /* the list or the half is ill-formed, or there are more runs than were lent; in a run lookup, no runs too */
     WHELK_REPORT_SHORT = 12,  /* the feed has more rows than the report has bytes */
     WHELK_NO_ROOM = 13,       /* the result doesn't fit what was lent */
     WHELK_NOT_ITS_RUNS = 14,  /* the run table is another than the list's */
@@ -140,6 +140,36 @@ struct whelk_packed whelk_pack(uint16_t q, size_t count, const uint64_t *keys, s
    0 with hop 0 says that nothing matches. */
 uint32_t whelk_packed_lookup(uint32_t width, const uint16_t *words, size_t words_length, const uint16_t *bases, size_t bases_length,
                              const uint16_t *hops, size_t hops_length, uint32_t address);
+
+/* A split makes two halves of a list, for two cores that each look up in one. A half is a list with labels in place of hops, and label 0 is
+   no fault; all else that makes a list ill-formed makes a half so. The first half is the list's first k rows: hand in count k with the list's
+   own keys and hops. The second is what whelk_split leaves. At every address, the label that the one gives XOR the label that the other gives
+   is the list's hop, or 0 where nothing matches. That is so by whelk_half_lookup, and by run lookup in the tables that whelk_build_half leaves. */
+
+/* Of what a split returned: its number, and the count of the second half. */
+#define WHELK_SPLIT_NUMBER(split) ((unsigned)((split) >> 32))
+#define WHELK_HALF_COUNT(split) ((size_t)((split)&4294967295u))
+
+/* Splits a list after its first k rows. The list stays as it is.
+   half_keys and labels get the second half, which is 0.0.0.0/0 with label 0 and then the list's rows from place k on, and slots past its count
+   stay as they were. Lend count - k + 1 slots in each; it takes exactly so many.
+   Returns 4,294,967,296 x number + count of the second half. The number is 0, 11 if the list is ill-formed, 17 if k is 0 or above count, 18 if
+   0.0.0.0/0 isn't listed, or 13 if one of the two is too short; where more than one fits, the first. */
+uint64_t whelk_split(size_t k, size_t count, const uint64_t *keys, size_t keys_length, const uint16_t *hops, size_t hops_length,
+                     uint64_t *half_keys, size_t half_keys_length, uint16_t *labels, size_t labels_length);
+
+/* Looks an address up in a half: the label of the longest prefix that holds it, or 0 if none does. It checks the half and goes through all of
+   it. To forward by, build a run table of the half.
+   Returns 65,536 x number + label, which WHELK_NUMBER and WHELK_HOP read. The number is 0, or 11 if the half is ill-formed. */
+uint32_t whelk_half_lookup(size_t count, const uint64_t *keys, size_t keys_length, const uint16_t *labels, size_t labels_length,
+                           uint32_t address);
+
+/* Builds the run table of a half, for run lookup to find labels in.
+   starts and run_labels get the table, and slots past its count stay as they were. Lend 2 x count + 1 slots in each; that is always enough.
+   Returns 4,294,967,296 x number + count of runs, which WHELK_BUILD_NUMBER and WHELK_RUNS read. The number is 0, 11 if the half is ill-formed,
+   or 13 if one of the two is too short. */
+uint64_t whelk_build_half(size_t count, const uint64_t *keys, size_t keys_length, const uint16_t *labels, size_t labels_length,
+                          uint32_t *starts, size_t starts_length, uint16_t *run_labels, size_t run_labels_length);
 
 #ifdef __cplusplus
 }

@@ -1,7 +1,7 @@
 #!/usr/bin/env python3
-"""A reference for the tests: the rules for feeds, plain lookup, run tables, packed segments, a list's text and the program, in Python's standard
-library. It was written from the rules alone, all but packed segments and the text by hands that had seen none of the code it checks; made to be
-read against docs/RULES.md, not to be quick.
+"""A reference for the tests: the rules for feeds, plain lookup, run tables, packed segments, splits, a list's text and the program, in Python's
+standard library. It was written from the rules alone, all but packed segments and the text by hands that had seen none of the code it checks;
+made to be read against docs/RULES.md, not to be quick.
 
 A prefix is a pair (network, length), a route a triple (network, length, hop). As a program it reads a feed from standard input and writes
 what the program `whelk` has to write.
@@ -126,6 +126,19 @@ def packed_lookup(width, words, bases, hops, address):
         return 19, 0
     place = bases[word] + f"{words[word]:016b}"[:bit + 1].count("1") - 1
     return (0, hops[place]) if 0 <= place < len(hops) else (19, 0)
+
+
+def split(routes, k, room):
+    """The number of a split and the second half, whose routes have labels for hops (11.2 to 11.7). Its half lookup is `plain`."""
+    if not 1 <= k <= len(routes):
+        return 17, []
+    if not any(length == 0 for _, length, _ in routes):
+        return 18, []
+    half = [(0, 0, 0)]
+    for network, length, hop in routes[k:]:
+        holding = [(l, h) for n, l, h in routes[:k] if l <= length and n <= network < n + size_of(l)]
+        half.append((network, length, hop ^ max(holding)[1]))
+    return (0, half) if len(half) <= min(room, TOP_ROOM) else (13, [])
 
 
 def dotted(address):

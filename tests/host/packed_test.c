@@ -158,9 +158,9 @@ static void untouched(void)
 {
     size_t i;
     for (i = 0; i < sizeof words / sizeof words[0]; i++)
-        if (words[i] != UNWRITTEN || bases[i] != UNWRITTEN) same("a written word or base", i, 0);
+        if (words[i] != UNWRITTEN || bases[i] != UNWRITTEN) same("a written word or base", i + 1, 0);
     for (i = 0; i < sizeof packed_hops / sizeof packed_hops[0]; i++)
-        if (packed_hops[i] != UNWRITTEN) same("a written hop", i, 0);
+        if (packed_hops[i] != UNWRITTEN) same("a written hop", i + 1, 0);
 }
 
 /* One segment: packed with more room than it needs and with just enough, looked up at every address, and refused in one slot less of each.

@@ -23,6 +23,9 @@ for name, result, arguments in (
     ("whelk_run_lookup", c_uint32, (*SLICE, c_uint32)),
     ("whelk_pack", Packed, (c_uint16, c_size_t, *SLICE, *SLICE, c_size_t, *(5 * SLICE))),
     ("whelk_packed_lookup", c_uint32, (c_uint32, *(3 * SLICE), c_uint32)),
+    ("whelk_split", c_uint64, (c_size_t, c_size_t, *(4 * SLICE))),
+    ("whelk_half_lookup", c_uint32, (c_size_t, *SLICE, *SLICE, c_uint32)),
+    ("whelk_build_half", c_uint64, (c_size_t, *(4 * SLICE))),
 ):
     getattr(library, name).restype = result
     getattr(library, name).argtypes = arguments
@@ -60,6 +63,17 @@ answers += [
     (library.whelk_packed_lookup(0, words, 1, bases, 1, packed_hops, 1, 0xA400001), 9),
     (library.whelk_packed_lookup(17, *lent(words, bases, packed_hops), 0), 65536 * 19),
     (library.whelk_pack(0xA40, 2, *lent(keys, hops), 4, *lent(starts, run_hops, words, bases, packed_hops)).number, 14),
+]
+half_keys, labels, run_labels = (c_uint64 * 4)(9, 9, 9, 9), (c_uint16 * 4)(9, 9, 9, 9), (c_uint16 * 9)()
+answers += [(library.whelk_split(2, 2, *lent(keys, hops, half_keys, labels)), 18 * 2**32), (list(labels), [9, 9, 9, 9])]
+keys, hops = (c_uint64 * 3)(0, *keys[:2]), (c_uint16 * 3)(4, *hops[:2])
+answers += [
+    (library.whelk_split(2, 3, *lent(keys, hops, half_keys, labels)), 2),
+    ([list(half_keys), list(labels)], [[0, keys[2], 9, 9], [0, 9 ^ 7, 9, 9]]),
+    (library.whelk_half_lookup(2, *lent(keys, hops), 0xA400001), 7),
+    (library.whelk_half_lookup(2, *lent(half_keys, labels), 0xA400001), 9 ^ 7),
+    (library.whelk_build_half(2, *lent(half_keys, labels, starts, run_labels)), 3),
+    (list(zip(starts, run_labels))[:3], [(0, 0), (0xA400000, 9 ^ 7), (0xA410000, 0)]),
 ]
 failed = [(got, wanted) for got, wanted in answers if got != wanted]
 for got, wanted in failed:

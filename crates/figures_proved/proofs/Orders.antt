@@ -1,7 +1,7 @@
 -- Rule 5.2: every call makes its checks in the order 15, 11, 14, 16, 17, 18, 19, 12, 13, whatever it is handed.
 -- Assumes nothing.
 use mathlib.Core.Path.{_≡_, refl}
-use mathlib.Core.Bool.{true}
+use mathlib.Core.Bool.{Bool, true}
 use mathlib.Core.List.{List}
 use Prim.Native.Nat.{ℕ}
 use Rattle.ground.specs.Numbers.{checkOrder, past, inOrder, Check}
@@ -27,7 +27,7 @@ pub record Orders : Type 0 where
   pub half : (l : ListLent) → InOrder (halfChecks l)
   pub imports : (feed : List ℕ) (l : ImportLent) → InOrder (importChecks feed l)
   pub write : (l : ListLent) (buffer : List ℕ) → InOrder (writeChecks l buffer)
-  pub build : (l : ListLent) (s : SlotsLent) → InOrder (buildChecks l s)
+  pub build : (half : Bool) (l : ListLent) (s : SlotsLent) → InOrder (buildChecks half l s)
   pub pair : (p : Pair) → InOrder (pairChecks p)
   pub run : (t : RunsLent) → InOrder (runChecks t)
   pub inBytes : (bytes : List ℕ) → InOrder (bytesChecks bytes)
@@ -44,7 +44,7 @@ orders = record {
   half = λ l. refl;
   imports = λ feed l. refl;
   write = λ l buffer. refl;
-  build = λ l s. refl;
+  build = λ half l s. refl;
   pair = λ p. refl;
   run = λ t. refl;
   inBytes = λ bytes. refl;

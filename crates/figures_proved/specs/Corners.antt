@@ -9,7 +9,7 @@ use Rattle.ground.specs.Column.{isIn, insertedAt, removedAt, lower}
 use Rattle.halving.specs.Halving.{halving}
 use Rattle.ground.specs.Stretch.{turnsFrom}
 use Rattle.cidr.specs.Prefix.{dotted, size, endOf, isPrefix, holds, covers, keyOf}
-use Rattle.routes.specs.Row.{Row, listLent, keysOf, hopsOf, listRoom}
+use Rattle.routes.specs.Row.{Row, ListLent, listLent, keysOf, hopsOf, listRoom}
 use Rattle.routes.specs.WellFormed.{wellFormed}
 use Rattle.routes.specs.Plain.{plain}
 use Rattle.routes.specs.Change.{announced, withdrawn}
@@ -21,7 +21,7 @@ use Rattle.feed.specs.RowNumber.{countsOf}
 use Rattle.feed.specs.Import.{rowNumbers, importedList, ImportLent, import, importTally}
 use Rattle.feed.specs.Pull.{pull}
 use Rattle.runs.specs.Table.{runsLent}
-use Rattle.runs.specs.Build.{slotsLent, build}
+use Rattle.runs.specs.Build.{slotsLent, build, buildHalf}
 use Rattle.runs.specs.Pair.{Pair, pair}
 use Rattle.runs.specs.Bytes.{runBytes}
 use Rattle.edit.specs.Edit.{announce, withdraw}
@@ -68,6 +68,13 @@ nested = route 10 0 0 0 8 1 ∷ route 10 64 0 0 10 2 ∷ []
 -- the number of a split with room for two rows
 abbrev pub splitOf : ℕ → ℕ → List ℕ → List ℕ → ℕ
 splitOf k count keys hops = split k (listLent count keys hops) (splitLent (0 ∷ 0 ∷ []) (0 ∷ 0 ∷ [])) .number
+
+-- a half of one row, 10.0.0.0/8 with label 0, and one of a row without a key
+abbrev pub label0 : ListLent
+label0 = listLent 1 (prefix 10 0 0 0 8 ∷ []) (0 ∷ [])
+
+abbrev pub illHalf : ListLent
+illHalf = listLent 1 (2 ^ 38 ∷ []) (0 ∷ [])
 
 -- the number of a packed lookup of the address 0
 abbrev pub packedNumber : ℕ → List ℕ → List ℕ → List ℕ → ℕ
@@ -246,6 +253,11 @@ corners =
     -- Rules 5.2 and 5.4: a build of an ill-formed list is 11 without any room too, and its slices stay.
     ∷ one (build (listLent 1 (2 ^ 38 ∷ []) (1 ∷ [])) (slotsLent [] []) .number) 11
     ∷ figure (build (listLent 1 (2 ^ 38 ∷ []) (1 ∷ [])) (slotsLent (7 ∷ []) (8 ∷ [])) .starts) (7 ∷ [])
+    -- Rule 11.10: label 0 is 11 for a build; that a build over a half takes it is `label-0-built`. An ill-formed half is 11 without any room
+    -- too, and the slices stay.
+    ∷ one (build label0 (slotsLent (7 ∷ 7 ∷ 7 ∷ []) (8 ∷ 8 ∷ 8 ∷ [])) .number) 11
+    ∷ one (buildHalf illHalf (slotsLent [] []) .number) 11
+    ∷ figure (buildHalf illHalf (slotsLent (7 ∷ []) (8 ∷ [])) .starts ++ buildHalf illHalf (slotsLent (7 ∷ []) (8 ∷ [])) .hops) (7 ∷ 8 ∷ [])
     -- Rules 10.2 and 10.3: an edit's 15 comes before the pair's 11. Rule 8.1: a count of runs beyond one slice is 11.
     -- Rule 5.4: a refusal returns 0 for the counts, and the slices stay.
     ∷ figure (announce 0 33 1 illPair .number ∷ announce 1 8 1 illPair .number ∷ announce 0 8 0 illPair .number ∷ []) (15 ∷ 15 ∷ 15 ∷ [])

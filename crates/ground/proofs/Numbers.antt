@@ -56,6 +56,12 @@ fault-front (c ∷ cs) ys e = go (c .fault) e (fault-front cs ys)
     go true q rest = q
     go false q rest = rest q
 
+-- checks that give 0 find no fault, neither the first check nor the later ones
+pub no-fault : (b : Bool) (n : ℕ) (cs : List Check) → firstFault (check b (suc n) ∷ cs) ≡ done → (b ≡ false) × (firstFault cs ≡ done)
+unfolding firstFault
+no-fault true n cs e = absurd (omega arith)
+no-fault false n cs e = (refl, e)
+
 -- an outcome whose number is 0 is that of an accepted call
 module _ {A : Type 0} (number : A → ℕ) (checks : List Check) (refused : ℕ → A) (accepted : A)
     (says : (n : ℕ) → number (refused n) ≡ n) (e : number (outcome checks refused accepted) ≡ done) where

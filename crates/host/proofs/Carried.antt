@@ -16,10 +16,14 @@ use Rattle.runs.specs.Build.{BuildOutcome, buildGave}
 use Rattle.segment.specs.declared.PackedHop.{PackedHop}
 use Rattle.segment.specs.declared.PackedHop.the-variants as H
 use Rattle.segment.specs.Lookup.{packedGave}
+use Rattle.split.specs.declared.Parted.{Parted}
+use Rattle.split.specs.declared.Parted.the-variants as S
+use Rattle.split.specs.Split.{SplitOutcome, splitGave}
 use Rattle.text.specs.declared.Written.{Written}
 use Rattle.text.specs.declared.Written.the-variants as W
 use Rattle.text.specs.Text.{WriteOutcome, writeGave}
 use Rattle.host.specs.Exports.{lookupForC, runLookupForC, builtForC, buildGaveC, buildForC, writtenForC, writeGaveC, writeForC}
+use Rattle.host.specs.Exports.{partedForC, splitGaveC, splitForC}
 
 module _ (r : Looked) where
   pub hop-carried : {h : ℕ} → r ≡ L.Hop h → h ≡ lookupForC (lookupGave r)
@@ -92,3 +96,34 @@ unfolding writtenForC writeForC
 write-carried (W.Text m) e b = rw (e, ← b)
 write-carried W.IllFormed e b = rw (e, ← b)
 write-carried W.NoRoom e b = rw (e, ← b)
+
+module _ (r : Parted) where
+  pub rows-carried : {n : ℕ} → r ≡ S.Rows n → n ≡ partedForC (splitGave r [] [])
+  unfolding partedForC
+  rows-carried e = rw e (omega arith)
+
+  pub unsplit-list-carried : r ≡ S.IllFormed → 4294967296 * 11 ≡ partedForC (splitGave r [] [])
+  unfolding partedForC
+  unsplit-list-carried e = rw e (omega arith)
+
+  pub bad-size-carried : r ≡ S.BadSize → 4294967296 * 17 ≡ partedForC (splitGave r [] [])
+  unfolding partedForC
+  bad-size-carried e = rw e (omega arith)
+
+  pub no-default-carried : r ≡ S.NoDefault → 4294967296 * 18 ≡ partedForC (splitGave r [] [])
+  unfolding partedForC
+  no-default-carried e = rw e (omega arith)
+
+  pub no-half-room-carried : r ≡ S.NoRoom → 4294967296 * 13 ≡ partedForC (splitGave r [] [])
+  unfolding partedForC
+  no-half-room-carried e = rw e (omega arith)
+
+-- what a split returns to C and leaves goes by its answer and its slices
+pub split-carried : (r : Parted) {n : ℕ} {keys labels : List ℕ} {o : SplitOutcome} → n ≡ partedForC (splitGave r [] [])
+    → splitGave r keys labels ≡ o → splitGaveC n keys labels ≡ splitForC o
+unfolding partedForC splitForC
+split-carried (S.Rows m) e b = rw (e, ← b)
+split-carried S.IllFormed e b = rw (e, ← b)
+split-carried S.BadSize e b = rw (e, ← b)
+split-carried S.NoDefault e b = rw (e, ← b)
+split-carried S.NoRoom e b = rw (e, ← b)

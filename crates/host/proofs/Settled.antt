@@ -1,4 +1,4 @@
--- What C gets from an import, from a build, from a packing and from a list writer is settled: two outcomes that keep the promise for one input are the same,
+-- What C gets from an import, from a build, from a packing, from a list writer and from a split is settled: two outcomes that keep the promise for one input are the same,
 -- in what is returned and in each lent slice. The lookups promise an equation.
 -- Assumes nothing.
 use mathlib.Core.Path.{_≡_, sym, ap, _∙_}
@@ -8,7 +8,7 @@ use Rattle.feed.specs.Import.{ImportLent, import}
 use Rattle.segment.specs.Pack.{PackOutcome}
 use Rattle.host.specs.declared.WhelkCounts.{WhelkCounts}
 use Rattle.host.specs.declared.WhelkPacked.{WhelkPacked}
-use Rattle.host.specs.Exports.{hostImportGave, hostPackGave, BuildForC, buildGaveC, WriteForC, writeGaveC}
+use Rattle.host.specs.Exports.{hostImportGave, hostPackGave, BuildForC, buildGaveC, WriteForC, writeGaveC, SplitForC, splitGaveC}
 use Rattle.host.proofs.ImportCarried.{toC}
 
 -- what C gets from an import and the three slices at exit can be told from what they say
@@ -39,3 +39,9 @@ host-pack-settled o r r′ w w′ b b′ h h′ e e′ =
 
 pub host-write-settled : (o : WriteForC) (r r′ : ℕ) (b b′ : List ℕ) → writeGaveC r b ≡ o → writeGaveC r′ b′ ≡ o → (r ≡ r′) × (b ≡ b′)
 host-write-settled o r r′ b b′ e e′ = let same = e ∙ sym e′ in (ap (λ (x : WriteForC). x .answer) same, ap (λ (x : WriteForC). x .buffer) same)
+
+pub host-split-settled : (o : SplitForC) (r r′ : ℕ) (k k′ h h′ : List ℕ) → splitGaveC r k h ≡ o → splitGaveC r′ k′ h′ ≡ o
+    → (r ≡ r′) × (k ≡ k′) × (h ≡ h′)
+host-split-settled o r r′ k k′ h h′ e e′ =
+    let same = e ∙ sym e′ in
+    (ap (λ (x : SplitForC). x .answer) same, ap (λ (x : SplitForC). x .keys) same, ap (λ (x : SplitForC). x .labels) same)

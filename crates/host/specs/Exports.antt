@@ -8,6 +8,7 @@ use Rattle.feed.specs.Import.{ImportOutcome}
 use Rattle.runs.specs.Build.{BuildOutcome}
 use Rattle.runs.specs.Lookup.{RunLookupOutcome}
 use Rattle.segment.specs.Pack.{PackOutcome}
+use Rattle.split.specs.Split.{SplitOutcome}
 use Rattle.text.specs.Text.{WriteOutcome}
 use Rattle.host.specs.declared.WhelkCounts.{WhelkCounts}
 use Rattle.host.specs.declared.WhelkPacked.{WhelkPacked}
@@ -74,3 +75,19 @@ writeGaveC answer buffer = record { answer = answer; buffer = buffer }
 
 unfoldable pub writeForC : WriteOutcome → WriteForC
 writeForC o = writeGaveC (writtenForC o) (o .buffer)
+
+-- Rule 7.10: a split gives C count + 4,294,967,296 × number.
+unfoldable pub partedForC : SplitOutcome → ℕ
+partedForC o = 4294967296 * o .number + o .count
+
+-- what a split returns to C and leaves: the one number, and the two slices
+pub record SplitForC : Type 0 where
+  pub answer : ℕ
+  pub keys : List ℕ
+  pub labels : List ℕ
+
+abbrev pub splitGaveC : ℕ → List ℕ → List ℕ → SplitForC
+splitGaveC answer keys labels = record { answer = answer; keys = keys; labels = labels }
+
+unfoldable pub splitForC : SplitOutcome → SplitForC
+splitForC o = splitGaveC (partedForC o) (o .keys) (o .labels)

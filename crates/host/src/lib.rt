@@ -1,19 +1,20 @@
 // The C interface: the library's entries over memory that the host lends, each with one number or one plain struct back. It adds no rule of
 // its own; include/whelkhollow.h declares what is exported here.
 ghost use Rattle.host.specs.Exports.{hostImportGave, lookupForC, runLookupForC, builtForC, buildGaveC, buildForC};
-ghost use Rattle.host.specs.Exports.{hostPackGave, writtenForC, writeGaveC, writeForC};
+ghost use Rattle.host.specs.Exports.{hostPackGave, writtenForC, writeGaveC, writeForC, partedForC, splitGaveC, splitForC};
 ghost use mathlib.Core.Path.{_≡_};
 ghost use mathlib.Core.List.{[]};
 ghost use Prim.Native.Nat.{_≤_};
 ghost use Rattle.feed.specs.Import.{import, endNumber};
 ghost use Rattle.routes.specs.Row.{listLent};
-ghost use Rattle.routes.specs.Lookup.{lookupGave, plainLookup};
+ghost use Rattle.routes.specs.Lookup.{lookupGave, plainLookup, halfLookup};
 ghost use Rattle.runs.specs.Table.{runsLent};
-ghost use Rattle.runs.specs.Build.{slotsLent, buildGave, build};
+ghost use Rattle.runs.specs.Build.{slotsLent, buildGave, build, buildHalf};
 ghost use Rattle.runs.specs.Lookup.{runLookupGave, runLookup, bytesLookup};
 ghost use Rattle.runs.specs.Pair.{pair};
 ghost use Rattle.segment.specs.Pack.{packLent, packRefused, packGave, pack};
 ghost use Rattle.segment.specs.Lookup.{segmentLent, packedGave, packedLookup};
+ghost use Rattle.split.specs.Split.{splitLent, splitGave, split};
 ghost use Rattle.text.specs.Text.{writeGave, write};
 use feed::ImportEnd;
 use routes::Looked;
@@ -21,6 +22,7 @@ use runs::Built;
 use runs::Probed;
 use segment::PackedHop;
 use segment::Packing;
+use split::Parted;
 use text::Written;
 
 // Rule 7.10: what an import returns to C, its number and the seven counts.
@@ -260,4 +262,60 @@ pub extern "C" fn whelk_write(count: usize, keys: &[u64], hops: &[u16], buffer: 
         ≡ writeForC (write (listLent count (now (keys .entry)) (now (hops .entry))) (now (buffer .entry))) ⌝ }
 {
     written_for_c(text::write(count, keys, hops, buffer))
+}
+
+// Rule 11.8: the label of a half at an address.
+#[no_mangle]
+pub extern "C" fn whelk_half_lookup(count: usize, keys: &[u64], labels: &[u16], a: u32) -> u32
+    ensures { λ r. ⌜ r ≡ lookupForC (halfLookup (listLent count (now (keys .entry)) (now (labels .entry))) a) ⌝ }
+{
+    lookup_for_c(routes::half_lookup(count, keys, labels, a))
+}
+
+// Rule 11.10: the run table of a half, of its labels.
+#[no_mangle]
+pub extern "C" fn whelk_build_half(
+    count: usize,
+    keys: &[u64],
+    labels: &[u16],
+    starts: &mut [u32],
+    rlabels: &mut [u16],
+) -> u64
+    ensures { λ r.
+        ⌜ buildGaveC r (now (starts .exit)) (now (rlabels .exit))
+        ≡ buildForC
+        (buildHalf (listLent count (now (keys .entry)) (now (labels .entry))) (slotsLent (now (starts .entry)) (now (rlabels .entry)))) ⌝ }
+{
+    built_for_c(runs::build_half(count, keys, labels, starts, rlabels))
+}
+
+// Rule 7.10: a split gives C count + 4,294,967,296 × number.
+fn parted_for_c(r: Parted) -> u64
+    ensures { λ n. ⌜ n ≡ partedForC (splitGave r [] []) ⌝ }
+{
+    match r {
+        Parted::Rows(n) => n as u64,
+        Parted::IllFormed => HIGH_UNIT * (ground::ILL_FORMED as u64),
+        Parted::BadSize => HIGH_UNIT * (ground::BAD_SIZE as u64),
+        Parted::NoDefault => HIGH_UNIT * (ground::NO_DEFAULT as u64),
+        Parted::NoRoom => HIGH_UNIT * (ground::NO_ROOM as u64),
+    }
+}
+
+// Rule 11.7: the second half of a list, into lent keys and labels.
+#[no_mangle]
+pub extern "C" fn whelk_split(
+    k: usize,
+    count: usize,
+    keys: &[u64],
+    hops: &[u16],
+    out: &mut [u64],
+    labels: &mut [u16],
+) -> u64
+    ensures { λ r.
+        ⌜ splitGaveC r (now (out .exit)) (now (labels .exit))
+        ≡ splitForC
+        (split k (listLent count (now (keys .entry)) (now (hops .entry))) (splitLent (now (out .entry)) (now (labels .entry)))) ⌝ }
+{
+    parted_for_c(split::split(k, count, keys, hops, out, labels))
 }

@@ -6,6 +6,6 @@ pub mod Change
 pub mod KeyPlace
 pub mod Columns
 pub mod Rest
-mod ListTest
+pub mod ListTest
 pub mod LastMatch
 pub mod LookupOutcome

@@ -58,12 +58,16 @@ module _ (count : ℕ) (keys hops : List ℕ) where
   formed-is true = refl
   formed-is false = refl
 
-  pub formed-half : (half : Bool) → formed half count keys hops ≡ true → halfFormed count keys hops ≡ true
-  unfolding formed halfFormed wellFormed goodRows
-  formed-half true e = e
-  formed-half false e =
+  pub well-half : wellFormed count keys hops ≡ true → halfFormed count keys hops ≡ true
+  unfolding halfFormed wellFormed goodRows
+  well-half e =
       and-both (and-left (leb count (listRoom keys hops)) _ e)
       (and-right (hopsGiven (rowsOf count keys hops)) _ (and-right (leb count (listRoom keys hops)) _ e))
+
+  pub formed-half : (half : Bool) → formed half count keys hops ≡ true → halfFormed count keys hops ≡ true
+  unfolding formed
+  formed-half true e = e
+  formed-half false e = well-half e
 
   pub half-room : halfFormed count keys hops ≡ true → count ≤ listRoom keys hops
   unfolding halfFormed

@@ -34,6 +34,16 @@ module _ (l : ListLent) (a : ℕ) (r : Looked) where
   unfolding formed halfLookup halfChecks
   half-answered e = ap lookupGave e ∙ answered (halfFormed (l .count) (l .keys) (l .hops)) _
 
+-- where the list is formed, the outcome is 0 and the plain answer
+module _ (l : ListLent) (a : ℕ) where
+  pub plain-accepted : wellFormed (l .count) (l .keys) (l .hops) ≡ true → plainLookup l a ≡ lookedUp done (plain (rowsLent l) a)
+  unfolding plainLookup lookupChecks firstFault outcome
+  plain-accepted e = rw e
+
+  pub half-accepted : halfFormed (l .count) (l .keys) (l .hops) ≡ true → halfLookup l a ≡ lookedUp done (plain (rowsLent l) a)
+  unfolding halfLookup halfChecks firstFault outcome
+  half-accepted e = rw e
+
 -- two answers with one outcome are the same
 one-answer : (r r′ : Looked) → lookupGave r ≡ lookupGave r′ → r ≡ r′
 one-answer (Hop h) (Hop h′) e = ap (λ o. Hop (o .hop)) e

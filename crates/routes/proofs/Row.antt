@@ -62,6 +62,12 @@ module _ (p : Row → Bool) where
       go true = refl
       go false = refl
 
+  -- two tests that agree on the listed rows pass the same ones
+  pub those-same : (q : Row → Bool) (rows : List Row) → ((r : Row) → Has r rows → p r ≡ q r) → those p rows ≡ those q rows
+  unfolding those
+  those-same q [] h = refl
+  those-same q (s ∷ ss) h = rw (h s (List·Memᴰ·head refl), those-same q ss (λ r m. h r (List·Memᴰ·tail m)))
+
   -- one row more, which passes or doesn't
   pub those-one : (xs : List Row) (r : Row) → p r ≡ true → those p (xs ++ r ∷ []) ≡ those p xs ++ r ∷ []
   unfolding those

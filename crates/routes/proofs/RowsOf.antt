@@ -1,9 +1,10 @@
--- The rows of two slices, place by place: the row at a place, one row more, what every row passes, and the rows of the slices' first slots.
+-- The rows of two slices, place by place: the row at a place, one row more, what every row passes, the rows of the slices' first slots, and
+-- the first of the rows.
 -- Assumes nothing.
 use mathlib.Core.Path.{_≡_, refl, ap}
 use mathlib.Core.Bool.{Bool, true}
 use mathlib.Core.List.{List, [], _∷_, _++_}
-use Prim.Native.Nat.{ℕ, zero, suc, _<_}
+use Prim.Native.Nat.{ℕ, zero, suc, _≤_, _<_}
 use native.Mathlib.Omega.{arith}
 use lib.ListN.{length, getD, take}
 use Rattle.ground.proofs.Truth.{and-left, and-right}
@@ -37,3 +38,20 @@ rows-taken zero keys hops = refl
 rows-taken (suc n) [] hops = refl
 rows-taken (suc n) (k ∷ keys) [] = refl
 rows-taken (suc n) (k ∷ keys) (h ∷ hops) = ap (row k h ∷_) (rows-taken n keys hops)
+
+pub rows-front : (k n : ℕ) (keys hops : List ℕ) → k ≤ n → take k (rowsOf n keys hops) ≡ rowsOf k keys hops
+unfolding rowsOf
+rows-front zero n keys hops l = refl
+rows-front (suc k) zero keys hops l = absurd (omega arith)
+rows-front (suc k) (suc n) [] hops l = refl
+rows-front (suc k) (suc n) (key ∷ keys) [] l = refl
+rows-front (suc k) (suc n) (key ∷ keys) (hop ∷ hops) l = ap (row key hop ∷_) (rows-front k n keys hops (omega arith))
+
+pub row-there : (n : ℕ) (keys hops : List ℕ) (i : ℕ) (d : Row) → i < n → i < length keys → i < length hops
+    → getD (rowsOf n keys hops) i d ≡ rowAt keys hops i
+unfolding rowsOf
+row-there zero keys hops i d l m h = absurd (omega arith)
+row-there (suc n) [] hops i d l m h = absurd (omega arith)
+row-there (suc n) (k ∷ keys) [] i d l m h = absurd (omega arith)
+row-there (suc n) (k ∷ keys) (h ∷ hops) zero d l m o = refl
+row-there (suc n) (k ∷ keys) (h ∷ hops) (suc i) d l m o = row-there n keys hops i d (omega arith) (omega arith) (omega arith)

@@ -3,7 +3,8 @@
 use mathlib.Core.Path.{_≡_, refl, sym, ap, _∙_, subst}
 use mathlib.Core.Logic.{_⊎_, inl, inr, ⊎-elim}
 use mathlib.Core.Bool.{true, not}
-use mathlib.Core.List.{List, [], _∷_, List·Memᴰ·head, List·Memᴰ·cases-cons, List·Memᴰ·not-nil}
+use mathlib.Core.List.{List, [], _∷_, _++_, Memᴰ·append-left, Memᴰ·append-right}
+use mathlib.Core.List.{List·Memᴰ·head, List·Memᴰ·cases-cons, List·Memᴰ·not-nil}
 use Prim.Native.Nat.{_<_}
 use native.Mathlib.Nat.{lt-trans, lt-irrefl}
 use borrow.Author.Tests.{ltb-true, lt-ltb, eqb-false, ne-eqb}
@@ -38,6 +39,26 @@ unfolding ascending ascends
 ascending-cons r [] h e = refl
 ascending-cons r (t ∷ ts) h e = and-both (lt-ltb _ _ (h t (List·Memᴰ·head refl))) e
 
+-- rows that ascend, one part behind another: both parts ascend, and each key of the first is below each of the second
+module _ (ys : List Row) where
+  pub ascending-front : (xs : List Row) → ascending (xs ++ ys) ≡ true → ascending xs ≡ true
+  unfolding ascending ascends
+  ascending-front [] e = refl
+  ascending-front (x ∷ xs) e =
+      ascending-cons x xs (λ s m. first-below x (xs ++ ys) e s (Memᴰ·append-left ys m))
+      (ascending-front xs (ascending-tail x (xs ++ ys) e))
+
+  pub ascending-back : (xs : List Row) → ascending (xs ++ ys) ≡ true → ascending ys ≡ true
+  ascending-back [] e = e
+  ascending-back (x ∷ xs) e = ascending-back xs (ascending-tail x (xs ++ ys) e)
+
+  pub front-below : (xs : List Row) → ascending (xs ++ ys) ≡ true → (r s : Row) → Has r xs → Has s ys → r .key < s .key
+  front-below [] e r s m n = absurd (List·Memᴰ·not-nil m)
+  front-below (x ∷ xs) e r s m n = ⊎-elim
+      (λ q. subst (λ z. z .key < s .key) (sym q) (first-below x (xs ++ ys) e s (Memᴰ·append-right xs n)))
+      (λ m′. front-below xs (ascending-tail x (xs ++ ys) e) r s m′ n)
+      (List·Memᴰ·cases-cons m)
+
 -- so a key stands in one row only
 pub one-row : (rows : List Row) → ascending rows ≡ true → (r s : Row) → Has r rows → Has s rows → r .key ≡ s .key → r ≡ s
 one-row [] a r s m n e = absurd (List·Memᴰ·not-nil m)
@@ -48,6 +69,23 @@ one-row (t ∷ ts) a r s m n e = go (List·Memᴰ·cases-cons m) (List·Memᴰ·
     go (inl q) (inr n′) rec = absurd (lt-irrefl _ (subst (λ x. x < s .key) (ap (λ x. x .key) (sym q) ∙ e) (first-below t ts a s n′)))
     go (inr m′) (inl q) rec = absurd (lt-irrefl _ (subst (λ x. x < r .key) (ap (λ x. x .key) (sym q) ∙ sym e) (first-below t ts a r m′)))
     go (inr m′) (inr n′) rec = rec m′ n′ e
+
+-- the parts of a half that 11 lets pass
+pub record HalfGood (rows : List Row) : Type 0 where
+  pub prefixed : (r : Row) → Has r rows → isPrefix (r .key) ≡ true
+  pub ascends : ascending rows ≡ true
+
+module _ (rows : List Row) where
+  pub half-parts : halfRows rows ≡ true → HalfGood rows
+  unfolding halfRows prefixes
+  half-parts e = record {
+    prefixed = every-has (λ r. isPrefix (r .key)) rows (and-left (prefixes rows) (ascending rows) e);
+    ascends = and-right (prefixes rows) (ascending rows) e;
+  }
+
+  pub parts-half : HalfGood rows → halfRows rows ≡ true
+  unfolding halfRows prefixes
+  parts-half g = and-both (has-every (λ r. isPrefix (r .key)) rows (g .prefixed)) (g .ascends)
 
 -- the parts of a list that 11 lets pass
 pub record Good (rows : List Row) : Type 0 where

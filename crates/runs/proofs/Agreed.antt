@@ -12,9 +12,10 @@ use Rattle.ground.specs.Slots.{same}
 use Rattle.ground.proofs.Slots.{same-is}
 use Rattle.ground.proofs.Truth.{and-left, and-right, or-neither, not-false}
 use Rattle.routes.specs.Row.{keysOf}
-use Rattle.routes.specs.WellFormed.{prefixes, ascending, halfRows, wellFormed}
+use Rattle.routes.specs.WellFormed.{prefixes, ascending, halfRows, wellFormed, halfFormed}
 use Rattle.routes.specs.Plain.{plain}
 use Rattle.routes.proofs.Columns.{keys-of-rows}
+use Rattle.routes.proofs.ListTest.{well-half}
 use Rattle.runs.specs.Table.{RunTable, runStarts, runHops}
 use Rattle.runs.specs.Build.{runRoom}
 use Rattle.runs.specs.Pair.{Pair, listOf, pairIll, itsRuns, pairCheck}
@@ -26,6 +27,9 @@ module _ (p : Pair) (agreed : pairCheck p ≡ done) where
   pub agreed-well : wellFormed (p .list .count) (p .list .keys) (p .list .hops) ≡ true
   unfolding pairIll
   agreed-well = not-false _ (or-neither (not (wellFormed (p .list .count) (p .list .keys) (p .list .hops))) _ (pair-agrees p agreed .0) .0)
+
+  pub agreed-half : halfFormed (p .list .count) (p .list .keys) (p .list .hops) ≡ true
+  agreed-half = well-half _ _ _ agreed-well
 
   pub agreed-room : p .table .count ≤ runRoom (p .table .starts) (p .table .hops)
   unfolding pairIll
@@ -51,11 +55,11 @@ module _ (p : Pair) (agreed : pairCheck p ≡ done) where
   -- the list's keys
   pub agreed-keys : keysOf (listOf p) ≡ take (p .list .count) (p .list .keys)
   agreed-keys =
-      keys-of-rows (p .list .count) (p .list .keys) (p .list .hops) (in-keys _ (p .list .keys) (p .list .hops) agreed-well)
-      (in-hops _ (p .list .keys) (p .list .hops) agreed-well)
+      keys-of-rows (p .list .count) (p .list .keys) (p .list .hops) (in-keys _ (p .list .keys) (p .list .hops) agreed-half)
+      (in-hops _ (p .list .keys) (p .list .hops) agreed-half)
 
   half : halfRows (listOf p) ≡ true
-  half = rw (slices-rows _ _ _ agreed-well) at (slices-sorted _ _ _ agreed-well .half)
+  half = rw (slices-rows _ _ _ agreed-half) at (slices-sorted _ _ _ agreed-half .half)
 
   pub agreed-prefixes : prefixes (listOf p) ≡ true
   unfolding halfRows

@@ -1,5 +1,5 @@
--- Rule 17.1: a build and a pair check are settled. Two outcomes that keep the promise for one input are the same, in the answer and, for a
--- build, in both lent slices. An outcome tells its answer and its slices.
+-- Rule 17.1: a build, of a half too, and a pair check are settled. Two outcomes that keep the promise for one input are the same, in the
+-- answer and, for a build, in both lent slices. An outcome tells its answer and its slices.
 -- Assumes nothing.
 use mathlib.Core.Path.{_≡_, refl, sym, ap, _∙_}
 use mathlib.Core.Bool.{cond}
@@ -12,7 +12,7 @@ use Rattle.runs.specs.declared.Built.{Built}
 use Rattle.runs.specs.declared.Built.the-variants as B
 use Rattle.runs.specs.declared.Paired.{Paired}
 use Rattle.runs.specs.declared.Paired.the-variants as P
-use Rattle.runs.specs.Build.{SlotsLent, BuildOutcome, buildGave, build}
+use Rattle.runs.specs.Build.{SlotsLent, BuildOutcome, buildGave, build, buildHalf}
 use Rattle.runs.specs.Pair.{Pair, pairGave, pairCheck}
 
 abbrev builtBy : BuildOutcome → Built
@@ -25,8 +25,8 @@ tells B.IllFormed starts hops = (refl, refl, refl)
 tells B.NoRoom starts hops = (refl, refl, refl)
 
 module _ (l : ListLent) (t : SlotsLent) (r r′ : Built) (s s′ h h′ : List ℕ) where
-  pub build-settled : buildGave r s h ≡ build l t → buildGave r′ s′ h′ ≡ build l t → (r ≡ r′) × (s ≡ s′) × (h ≡ h′)
-  build-settled e e′ =
+  one-build : (o : BuildOutcome) → buildGave r s h ≡ o → buildGave r′ s′ h′ ≡ o → (r ≡ r′) × (s ≡ s′) × (h ≡ h′)
+  one-build o e e′ =
       let same = e ∙ sym e′ in
       let one = tells r s h in
       let other = tells r′ s′ h′ in (
@@ -34,6 +34,12 @@ module _ (l : ListLent) (t : SlotsLent) (r r′ : Built) (s s′ h h′ : List �
         sym (one .1) ∙ ap (λ (o : BuildOutcome). o .starts) same ∙ other .1,
         sym (one .2) ∙ ap (λ (o : BuildOutcome). o .hops) same ∙ other .2,
       )
+
+  pub build-settled : buildGave r s h ≡ build l t → buildGave r′ s′ h′ ≡ build l t → (r ≡ r′) × (s ≡ s′) × (h ≡ h′)
+  build-settled = one-build (build l t)
+
+  pub build-half-settled : buildGave r s h ≡ buildHalf l t → buildGave r′ s′ h′ ≡ buildHalf l t → (r ≡ r′) × (s ≡ s′) × (h ≡ h′)
+  build-half-settled = one-build (buildHalf l t)
 
 abbrev pairedBy : ℕ → Paired
 pairedBy n = cond (eqb n done) P.Agreed (cond (eqb n illFormed) P.IllFormed P.NotItsRuns)

@@ -3,7 +3,7 @@
 use mathlib.Core.Path.{_≡_, refl, sym, ap, _∙_}
 use mathlib.Core.Bool.{Bool, true, false, not, cond}
 use mathlib.Core.List.{List, [], _∷_}
-use Prim.Native.Nat.{ℕ, _≤_, _<_}
+use Prim.Native.Nat.{ℕ, _+_, _*_, _≤_, _<_}
 use native.Mathlib.Omega.{arith}
 use lib.ListN.{length, take}
 use lib.Dec.{ltb}
@@ -12,25 +12,39 @@ use Rattle.ground.specs.Numbers.{check, firstFault, outcome, done, illFormed, n
 use Rattle.ground.specs.Slots.{written}
 use Rattle.ground.proofs.Numbers.{outcome-later, outcome-last}
 use Rattle.routes.specs.Row.{Row, ListLent, rowsLent}
-use Rattle.routes.specs.WellFormed.{wellFormed}
+use Rattle.routes.specs.WellFormed.{wellFormed, formed}
+use Rattle.routes.proofs.ListTest.{well-half, formed-half}
+use Rattle.routes.proofs.Columns.{length-rows}
 use Rattle.runs.specs.declared.Built.the-variants as B
 use Rattle.runs.specs.declared.Paired.the-variants as P
 use Rattle.runs.specs.Table.{runStarts, runHops}
-use Rattle.runs.specs.Build.{SlotsLent, BuildOutcome, built, buildChecks, build, runRoom}
+use Rattle.runs.specs.Build.{SlotsLent, BuildOutcome, built, buildChecks, buildOf, runRoom}
 use Rattle.runs.specs.Pair.{Pair, pairIll, itsRuns, pairChecks, pairCheck}
 use Rattle.runs.specs.Inside.Rows.{buildRows}
 use Rattle.sweep.specs.Sweep.{allRows, answer, areRuns}
-use Rattle.runs.proofs.WholeList.{slices-rows, slices-sorted, whole-starts, whole-hops}
+use Rattle.runs.proofs.WholeList.{in-keys, in-hops, slices-rows, slices-sorted, whole-starts, whole-hops}
+use Rattle.runs.proofs.Table.{runs-at-most}
 
--- A build goes by the list test, and then by the room.
-module _ (l : ListLent) (s : SlotsLent) where
-  pub build-ill : wellFormed (l .count) (l .keys) (l .hops) ≡ false → built illFormed 0 (s .starts) (s .hops) ≡ build l s
-  unfolding build buildChecks firstFault outcome
+-- A build goes by the list test, and then by the room, of a half too.
+module _ (half : Bool) (l : ListLent) (s : SlotsLent) where
+  pub build-ill : formed half (l .count) (l .keys) (l .hops) ≡ false → built illFormed 0 (s .starts) (s .hops) ≡ buildOf half l s
+  unfolding buildOf buildChecks firstFault outcome
   build-ill e = rw e
 
-  pub build-well : wellFormed (l .count) (l .keys) (l .hops) ≡ true → build l s ≡ buildRows (rowsLent l) s
-  unfolding build buildChecks buildRows
+  pub build-well : formed half (l .count) (l .keys) (l .hops) ≡ true → buildOf half l s ≡ buildRows (rowsLent l) s
+  unfolding buildOf buildChecks buildRows
   build-well e = outcome-later illFormed _ _ _ (ap not e) ∙ outcome-last _ 12 _ _
+
+  -- Rule 6.5: room for twice the rows and one more is always enough
+  pub build-fits : formed half (l .count) (l .keys) (l .hops) ≡ true → 2 * l .count + 1 ≤ runRoom (s .starts) (s .hops)
+      → buildOf half l s .number ≡ done
+  unfolding buildRows
+  build-fits e fits =
+      let in-order = formed-half (l .count) (l .keys) (l .hops) half e in
+      let rows = length-rows (l .count) (l .keys) (l .hops) (in-keys _ _ _ in-order) (in-hops _ _ _ in-order) in
+      let few : length (runStarts (rowsLent l)) ≤ runRoom (s .starts) (s .hops) = omega (arith, runs-at-most (rowsLent l), rows) in
+      ap (λ (o : BuildOutcome). o .number) (build-well e)
+      ∙ rw (le-ltb (runRoom (s .starts) (s .hops)) (length (runStarts (rowsLent l))) few)
 
 -- where a build of rows is accepted, this is what it left
 pub rows-done : (rows : List Row) (s : SlotsLent) {n : ℕ} {starts hops : List ℕ} → built done n starts hops ≡ buildRows rows s
@@ -65,8 +79,9 @@ module _ (p : Pair) where
           → itsRuns p ≡ b
       unfolding itsRuns areRuns
       its q =
-          let s = slices-sorted (p .list .count) (p .list .keys) (p .list .hops) e in
-          sym (q ∙ rw (whole-hops s, whole-starts s, slices-rows (p .list .count) (p .list .keys) (p .list .hops) e))
+          let in-order = well-half (p .list .count) (p .list .keys) (p .list .hops) e in
+          let s = slices-sorted _ _ _ in-order in
+          sym (q ∙ rw (whole-hops s, whole-starts s, slices-rows _ _ _ in-order))
 
       pub pair-agreed : itsRuns p ≡ true → done ≡ pairCheck p
       unfolding pairCheck pairChecks pairIll firstFault

@@ -1,5 +1,5 @@
--- The sweep over a whole list: its slices are sorted where the list is well-formed, its answer with base 0 is the plain answer, and so the
--- turns of that answer over all addresses are the list's run table.
+-- The sweep over a whole list: its slices are sorted where the list is well-formed or a half, its answer with base 0 is the plain answer,
+-- and so the turns of that answer over all addresses are the list's run table.
 -- Assumes nothing.
 use mathlib.Core.Path.{_≡_, refl, sym, ap, _∙_, fun-ext}
 use mathlib.Core.Bool.{Bool, true, false}
@@ -10,15 +10,16 @@ use lib.ListN.{length, take}
 use lib.Seq.{length-take-le}
 use lib.Dec.{leb}
 use borrow.Author.Tests.{leb-true, leb-false, le-leb, lt-ltb, le-ltb}
-use Rattle.ground.proofs.Truth.{and-left, and-right}
+use Rattle.ground.proofs.Truth.{and-right}
 use Rattle.ground.specs.Numbers.{done, noRoom}
 use Rattle.ground.specs.Stretch.{picked, counted, turns}
 use Rattle.ground.specs.Stretch.Count.{counted-is}
 use Rattle.cidr.specs.Prefix.{holds}
 use Rattle.routes.specs.Row.{Row, rowsOf, hopsOf, listRoom, those}
-use Rattle.routes.specs.WellFormed.{hopsGiven, goodRows, wellFormed, formed}
+use Rattle.routes.specs.WellFormed.{wellFormed, halfFormed, formed}
 use Rattle.routes.specs.Plain.{matching, plain}
 use Rattle.routes.proofs.RowsOf.{rows-taken}
+use Rattle.routes.proofs.ListTest.{half-room}
 use Rattle.routes.proofs.Columns.{length-rows}
 use Rattle.routes.proofs.LastMatch.{lastHop, plain-last}
 use Rattle.runs.specs.Table.{runStarts, runHops, runHopsOf}
@@ -41,7 +42,7 @@ last-is a h (r ∷ rs) = go (holds (r .key) a) refl (λ h′. last-is a h′ rs)
     go false e rec = rw e (rec h)
 
 module _ {keys hops : List ℕ} (s : Sorted keys hops) where
-  answer-plain : answer 0 (allRows keys hops) ≡ plain (allRows keys hops)
+  pub answer-plain : answer 0 (allRows keys hops) ≡ plain (allRows keys hops)
   unfolding answer
   answer-plain = fun-ext (λ a. sym (plain-last a (allRows keys hops) (in-order s) ∙ last-is a 0 (allRows keys hops)))
 
@@ -67,28 +68,24 @@ pub list-test : (count : ℕ) (keys hops : List ℕ) {b : Bool} → b ≡ formed
 unfolding formed
 list-test count keys hops e = sym e
 
--- a well-formed list, as the slices of its rows
-module _ (count : ℕ) (keys hops : List ℕ) (e : wellFormed count keys hops ≡ true) where
-  pub in-room : count ≤ listRoom keys hops
-  unfolding wellFormed
-  in-room = leb-true _ _ (and-left (leb count (listRoom keys hops)) _ e)
-
+-- a list whose rows are in order, label 0 or not, as the slices of its rows
+module _ (count : ℕ) (keys hops : List ℕ) (e : halfFormed count keys hops ≡ true) where
   pub in-keys : count ≤ length keys
   unfolding listRoom
-  in-keys = omega (arith, in-room)
+  in-keys = omega (arith, half-room count keys hops e)
 
   pub in-hops : count ≤ length hops
   unfolding listRoom
-  in-hops = omega (arith, in-room)
+  in-hops = omega (arith, half-room count keys hops e)
 
   pub slices-rows : allRows (take count keys) (take count hops) ≡ rowsOf count keys hops
   slices-rows = rw (length-take-le count keys in-keys) (rows-taken count keys hops)
 
   pub slices-sorted : Sorted (take count keys) (take count hops)
-  unfolding wellFormed goodRows
+  unfolding halfFormed
   slices-sorted = record {
     paired = rw (length-take-le count hops in-hops) (sym (length-take-le count keys in-keys));
-    half = rw slices-rows (and-right (hopsGiven (rowsOf count keys hops)) _ (and-right (leb count (listRoom keys hops)) _ e));
+    half = rw slices-rows (and-right (leb count (listRoom keys hops)) _ e);
   }
 
 -- What a build of the rows says in each of its answers.

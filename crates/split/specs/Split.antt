@@ -14,6 +14,8 @@ use Rattle.routes.specs.Row.{Row, row, ListLent, rowsLent, those, listRoom, key
 use Rattle.routes.specs.WellFormed.{wellFormed}
 use Rattle.routes.specs.Plain.{longest, hopOf}
 use Rattle.routes.specs.Change.{listed}
+use Rattle.split.specs.declared.Parted.{Parted}
+use Rattle.split.specs.declared.Parted.the-variants.{Rows, IllFormed, BadSize, NoDefault, NoRoom}
 
 -- 0.0.0.0/0
 abbrev pub defaultKey : ℕ
@@ -51,6 +53,14 @@ pub record SplitOutcome : Type 0 where
 
 abbrev pub splitInto : ℕ → ℕ → List ℕ → List ℕ → SplitOutcome
 splitInto n count keys labels = record { number = n; count = count; keys = keys; labels = labels }
+
+-- the same, read from the code's answer and the slices at exit
+abbrev pub splitGave : Parted → List ℕ → List ℕ → SplitOutcome
+splitGave (Rows n) keys labels = splitInto done n keys labels
+splitGave IllFormed keys labels = splitInto illFormed 0 keys labels
+splitGave BadSize keys labels = splitInto badSize 0 keys labels
+splitGave NoDefault keys labels = splitInto noDefault 0 keys labels
+splitGave NoRoom keys labels = splitInto noRoom 0 keys labels
 
 -- Rules 11.1, 11.2, 11.3 and 11.7: the checks of a split, for 11, 17, 18 and 13.
 unfoldable pub splitChecks : ℕ → ListLent → SplitLent → List Check

@@ -114,7 +114,7 @@ fn next_event(keys: &[u64], ends: &[u64; 33], s: Standing, limit: u64) -> u64
 }
 
 // The sweep moves on to an address up to which no row opens.
-fn step(
+pub fn step(
     keys: &[u64],
     hops: &[u16],
     s: Standing,

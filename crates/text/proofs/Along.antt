@@ -15,7 +15,8 @@ use Rattle.routes.specs.Row.{rowsOf, listRoom, topRoom}
 use Rattle.routes.specs.WellFormed.{prefixes, ascending, hopsGiven, halfRows, goodRows, wellFormed}
 use Rattle.routes.proofs.RowsOf.{rowAt, every-at}
 use Rattle.routes.proofs.Rest.{rest, rest-start, rest-next, rest-end}
-use Rattle.runs.proofs.WholeList.{in-room, in-keys, in-hops}
+use Rattle.routes.proofs.ListTest.{well-half, half-room}
+use Rattle.runs.proofs.WholeList.{in-keys, in-hops}
 use Rattle.text.specs.Text.{rowText, textOf}
 use Rattle.text.specs.Inside.Putting.{Wrote, Fits, Put}
 use Rattle.text.proofs.Putting.{put-none, put-front, first-fits, rest-fits, put-then, put-long}
@@ -23,7 +24,7 @@ use Rattle.text.proofs.Putting.{put-none, put-front, first-fits, rest-f
 -- a well-formed list has no more rows than the top room
 pub in-top : (count : ℕ) (keys hops : List ℕ) → wellFormed count keys hops ≡ true → count ≤ topRoom
 unfolding listRoom
-in-top count keys hops e = omega (arith, in-room count keys hops e)
+in-top count keys hops e = omega (arith, half-room count keys hops (well-half count keys hops e))
 
 -- the network of each row's key is an address
 pub network-small : (count : ℕ) (keys hops : List ℕ) → wellFormed count keys hops ≡ true
@@ -31,9 +32,10 @@ pub network-small : (count : ℕ) (keys hops : List ℕ) → wellFormed count ke
 unfolding wellFormed goodRows halfRows prefixes isPrefix
 network-small count keys hops e i l =
     let rows = rowsOf count keys hops in
+    let in-order = well-half count keys hops e in
     let half = and-right (hopsGiven rows) (halfRows rows) (and-right (leb count (listRoom keys hops)) (goodRows rows) e) in
     let key = every-at (λ r. isPrefix (r .key)) count keys hops (and-left (prefixes rows) (ascending rows) half) i l
-    (omega (arith, in-keys count keys hops e)) (omega (arith, in-hops count keys hops e)) in
+    (omega (arith, in-keys count keys hops in-order)) (omega (arith, in-hops count keys hops in-order)) in
     let k = getD keys i 0 in
     ltb-true (network k) addresses (and-left (ltb (network k) addresses) _ (and-right (leb (lengthOf k) 32) _ key))
 
@@ -47,7 +49,7 @@ module _ (count : ℕ) (keys hops : List ℕ) where
   module _ (well : wellFormed count keys hops ≡ true) (i : ℕ) where
     pub ahead-next : i < count → ahead i ≡ rowText (rowAt keys hops i) ++ ahead (i + 1)
     unfolding textOf
-    ahead-next l = ap textOf (rest-next count keys hops i l (in-room count keys hops well))
+    ahead-next l = ap textOf (rest-next count keys hops i l (half-room count keys hops (well-half count keys hops well)))
 
     pub ahead-end : count ≤ i → ahead i ≡ []
     unfolding textOf

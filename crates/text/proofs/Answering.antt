@@ -3,7 +3,7 @@
 -- Assumes nothing.
 use mathlib.Core.Path.{_≡_, refl, sym, ap, _∙_}
 use mathlib.Core.Logic.{_⊎_, ⊎-elim}
-use mathlib.Core.Bool.{true}
+use mathlib.Core.Bool.{true, false}
 use mathlib.Core.List.{List}
 use Prim.Native.Nat.{ℕ, _≤_, _<_}
 use native.Mathlib.Omega.{arith}
@@ -15,7 +15,7 @@ use Rattle.ground.specs.Slots.{written}
 use Rattle.ground.proofs.Slots.{length-written, take-written}
 use Rattle.routes.specs.Row.{Row, listLent, rowsOf, listRoom}
 use Rattle.routes.specs.Plain.{plain}
-use Rattle.routes.specs.WellFormed.{wellFormed}
+use Rattle.routes.specs.WellFormed.{wellFormed, formed}
 use Rattle.routes.proofs.Columns.{length-rows}
 use Rattle.feed.specs.declared.Imported.{Imported}
 use Rattle.feed.specs.declared.ImportEnd.{ImportEnd}
@@ -31,6 +31,7 @@ use Rattle.runs.specs.Table.{runStarts, runHops}
 use Rattle.runs.specs.Build.{BuildOutcome, slotsLent, built, buildGave, build, runRoom}
 use Rattle.runs.specs.Inside.Rows.{buildRows}
 use Rattle.runs.proofs.Table.{table-of, runs-at-most}
+use Rattle.routes.proofs.ListTest.{well-half}
 use Rattle.runs.proofs.TableOutcomes.{build-well}
 use Rattle.runs.proofs.WholeList.{in-keys, in-hops}
 use Rattle.text.specs.Program.{bytes, longestFeed, programRoom, programText, programGave, program}
@@ -85,8 +86,9 @@ module _ (count : ℕ) (keys hops starts rhops : List ℕ) (w : wellFormed count
 
   runs-few : length (runStarts (rowsOf count keys hops)) ≤ 2049
   runs-few =
-      let in-k = in-keys count keys hops w in
-      omega (arith, runs-at-most rows, length-rows count keys hops in-k (in-hops count keys hops w))
+      let half = well-half count keys hops w in
+      let in-k = in-keys count keys hops half in
+      omega (arith, runs-at-most rows, length-rows count keys hops in-k (in-hops count keys hops half))
 
   paired : length (runHops (rowsOf count keys hops)) ≡ length (runStarts (rowsOf count keys hops))
   unfolding runHops runStarts
@@ -100,8 +102,9 @@ module _ (count : ℕ) (keys hops starts rhops : List ℕ) (w : wellFormed count
   left = built done (length (runStarts rows)) (written (runStarts rows) starts) (written (runHops rows) rhops)
 
   build-done : build (listLent count keys hops) (slotsLent starts rhops) ≡ left
+  unfolding formed
   build-done =
-      build-well (listLent count keys hops) (slotsLent starts rhops) w
+      build-well false (listLent count keys hops) (slotsLent starts rhops) w
       ∙ unfold buildRows in rw (le-ltb (runRoom starts rhops) (length (runStarts rows)) in-room)
 
   module _ (b : Built) (starts′ rhops′ : List ℕ)

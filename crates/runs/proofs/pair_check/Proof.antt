@@ -9,6 +9,7 @@ use lib.Seq.{length-take-le}
 use denote.Ref.{now}
 use Rattle.ground.proofs.Truth.{not-true, not-false}
 use Rattle.routes.specs.WellFormed.{wellFormed}
+use Rattle.routes.proofs.ListTest.{well-half}
 use Rattle.runs.specs.Build.{runRoom}
 use Rattle.runs.proofs.WholeList.{list-test, in-keys, in-hops, slices-sorted, in-starts, in-rhops, runs-paired}
 use Rattle.runs.proofs.TableOutcomes.{pair-ill-list, pair-ill-runs, its, pair-agreed, pair-differs}
@@ -44,10 +45,10 @@ returns-2 : tie.Need-returns-2
 returns-2 c = pair-ill-runs _ (ok (c .before .before)) (rw (sym (c .before .run-room .ensures)) (c .if2 .taken))
 
 slice-aggregate-same-runs : tie.Need-slice-aggregate-same-runs
-slice-aggregate-same-runs c = sym (length-take-le _ _ (in-keys _ _ _ (ok (c .before .before .before))))
+slice-aggregate-same-runs c = sym (length-take-le _ _ (in-keys _ _ _ (well-half _ _ _ (ok (c .before .before .before)))))
 
 slice-aggregate-same-runs-2 : tie.Need-slice-aggregate-same-runs-2
-slice-aggregate-same-runs-2 c = sym (length-take-le _ _ (in-hops _ _ _ (ok (c .before .before .before .before))))
+slice-aggregate-same-runs-2 c = sym (length-take-le _ _ (in-hops _ _ _ (well-half _ _ _ (ok (c .before .before .before .before)))))
 
 slice-aggregate-same-runs-3 : tie.Need-slice-aggregate-same-runs-3
 slice-aggregate-same-runs-3 c = sym (length-take-le _ _ (in-starts _ _ _ (room (c .before .before .before))))
@@ -58,7 +59,8 @@ slice-aggregate-same-runs-4 c = sym (length-take-le _ _ (in-rhops _ _ _ (room (a
 same-runs-requires : tie.Need-same-runs-requires
 same-runs-requires c κs =
     let branch = at-branch c in
-    (slices-sorted _ _ _ (ok (branch .before .before)), (λ i l. omega arith), omega arith, omega arith, runs-paired _ _ _ (room branch))
+    let in-order = well-half _ _ _ (ok (branch .before .before)) in
+    (slices-sorted _ _ _ in-order, (λ i l. omega arith), omega arith, omega arith, runs-paired _ _ _ (room branch))
 
 returns-3 : tie.Need-returns-3
 returns-3 c =

@@ -9,7 +9,7 @@ use Rattle.routes.specs.Row.{listLent}
 use Rattle.runs.specs.Table.{runsLent}
 use Rattle.runs.specs.Pair.{Pair, pair, pairCheck, pairGave}
 use Rattle.runs.proofs.WholeList.{in-keys, in-starts, in-rhops}
-use Rattle.runs.proofs.Agreed.{agreed-well, agreed-room, agreed-ascends}
+use Rattle.runs.proofs.Agreed.{agreed-half, agreed-room, agreed-ascends}
 use Rattle.segment.proofs.PackLaws.{pack-ill, pack-other}
 use Rattle.segment.proofs.PackAgreed.{agreed-runs, agreed-narrow, segment-packed}
 use borrow.Author.Needs.{needs}
@@ -57,7 +57,7 @@ enum-told-3 : tie.Need-enum-told-3
 enum-told-3 c = search needs
 
 slice-aggregate-pack-segment : tie.Need-slice-aggregate-pack-segment
-slice-aggregate-pack-segment c = sym (length-take-le _ _ (in-keys _ _ _ (agreed-well _ (agreed (c .before)))))
+slice-aggregate-pack-segment c = sym (length-take-le _ _ (in-keys _ _ _ (agreed-half _ (agreed (c .before)))))
 
 slice-aggregate-pack-segment-2 : tie.Need-slice-aggregate-pack-segment-2
 slice-aggregate-pack-segment-2 c = sym (length-take-le _ _ (in-starts _ _ _ (agreed-room _ (agreed (c .before .before)))))

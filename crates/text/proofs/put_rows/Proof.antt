@@ -3,6 +3,7 @@
 -- Assumes nothing.
 use Prim.Native.Nat.{_-_}
 use native.Mathlib.Omega.{arith}
+use Rattle.routes.proofs.ListTest.{well-half}
 use Rattle.runs.proofs.WholeList.{in-keys, in-hops}
 use Rattle.text.proofs.Along.{Putting, in-top, putting-start, row-fits, putting-next, putting-end}
 use Rattle.text.proofs.put_rows.Statement.{statement}
@@ -21,13 +22,15 @@ mul-row : tie.Need-mul-row Inv-loop μ-loop
 mul-row c = omega (arith, in-top _ _ _ (c .before .before .before .before .before .before .pre .0))
 
 shared-slice-read-row : tie.Need-shared-slice-read-row Inv-loop μ-loop
-shared-slice-read-row c = omega (arith, in-keys _ _ _ (c .before .before .before .before .before .before .before .pre .0))
+shared-slice-read-row c =
+    omega (arith, in-keys _ _ _ (well-half _ _ _ (c .before .before .before .before .before .before .before .pre .0)))
 
 mul-row-2 : tie.Need-mul-row-2 Inv-loop μ-loop
 mul-row-2 c = omega (arith, in-top _ _ _ (c .before .before .before .before .before .before .before .pre .0))
 
 shared-slice-read-row-2 : tie.Need-shared-slice-read-row-2 Inv-loop μ-loop
-shared-slice-read-row-2 c = omega (arith, in-hops _ _ _ (c .before .before .before .before .before .before .before .before .pre .0))
+shared-slice-read-row-2 c =
+    omega (arith, in-hops _ _ _ (well-half _ _ _ (c .before .before .before .before .before .before .before .before .pre .0)))
 
 row-requires : tie.Need-row-requires Inv-loop μ-loop
 row-requires c κs =

@@ -3,6 +3,7 @@
 -- Assumes nothing.
 use Prim.Native.Nat.{_-_}
 use native.Mathlib.Omega.{arith}
+use Rattle.routes.proofs.ListTest.{well-half}
 use Rattle.runs.proofs.WholeList.{in-keys, in-hops}
 use Rattle.text.proofs.Along.{Counting, in-top, network-small, counting-start, counting-next, counting-end}
 use Rattle.text.proofs.text_length.Statement.{statement}
@@ -21,13 +22,13 @@ mul-of-row : tie.Need-mul-of-row Inv-loop μ-loop
 mul-of-row c = omega (arith, in-top _ _ _ (c .before .before .before .before .pre))
 
 shared-slice-read-of-row : tie.Need-shared-slice-read-of-row Inv-loop μ-loop
-shared-slice-read-of-row c = omega (arith, in-keys _ _ _ (c .before .before .before .before .before .pre))
+shared-slice-read-of-row c = omega (arith, in-keys _ _ _ (well-half _ _ _ (c .before .before .before .before .before .pre)))
 
 mul-of-row-2 : tie.Need-mul-of-row-2 Inv-loop μ-loop
 mul-of-row-2 c = omega (arith, in-top _ _ _ (c .before .before .before .before .before .pre))
 
 shared-slice-read-of-row-2 : tie.Need-shared-slice-read-of-row-2 Inv-loop μ-loop
-shared-slice-read-of-row-2 c = omega (arith, in-hops _ _ _ (c .before .before .before .before .before .before .pre))
+shared-slice-read-of-row-2 c = omega (arith, in-hops _ _ _ (well-half _ _ _ (c .before .before .before .before .before .before .pre)))
 
 of-row-requires : tie.Need-of-row-requires Inv-loop μ-loop
 of-row-requires c κs = let st = c .before .before .before .before .before .before in network-small _ _ _ (st .pre) _ (omega arith)

@@ -1,0 +1,50 @@
+-- Rule 11.9 for run tables, from the contracts alone: where a split was accepted and a run table was built of each half, run lookup in both
+-- tables answers at every address, and the two labels XOR to what plain lookup in the list gives.
+-- Assumes nothing.
+use mathlib.Core.Path.{_≡_, sym}
+use mathlib.Core.List.{List}
+use Prim.Native.Nat.{ℕ, _<_}
+use lib.Bits.{bitXor}
+use Rattle.ground.specs.Numbers.{done}
+use Rattle.cidr.specs.Prefix.{addresses}
+use Rattle.routes.specs.Row.{ListLent, listLent, rowsLent}
+use Rattle.routes.specs.Plain.{plain}
+use Rattle.routes.specs.Lookup.{plainLookup}
+use Rattle.routes.specs.declared.Looked.the-variants.{Hop}
+use Rattle.runs.specs.declared.Built.the-variants.{Runs}
+use Rattle.runs.specs.declared.Probed.{Probed}
+use Rattle.runs.specs.Table.{runsLent}
+use Rattle.runs.specs.Build.{SlotsLent, buildGave, buildHalf}
+use Rattle.runs.specs.Lookup.{runLookupGave, runLookup}
+use Rattle.runs.proofs.BuildThenLookup.{build-half-then-lookup}
+use Rattle.split.specs.declared.Parted.the-variants.{Rows}
+use Rattle.split.specs.Split.{firstHalf, secondHalf, SplitLent, splitGave, split}
+use Rattle.split.proofs.SplitThenLookup.{first-is, second-is, split-then-lookup}
+
+-- what run lookups in the two tables give at an address, beside plain lookup in the list
+pub record RunsRejoined (l : ListLent) (a : ℕ) (first second : Probed) : Type 0 where
+  pub plain-done : plainLookup l a .number ≡ done
+  pub first-done : runLookupGave first .number ≡ done
+  pub second-done : runLookupGave second .number ≡ done
+  pub xor : bitXor (runLookupGave first .hop) (runLookupGave second .hop) ≡ plainLookup l a .hop
+
+module _ (k : ℕ) (l : ListLent) (out : SplitLent) {n : ℕ} {keys labels : List ℕ} (e : splitGave (Rows n) keys labels ≡ split k l out)
+    (t t′ : SlotsLent) {m m′ : ℕ} {starts starts′ hops hops′ : List ℕ}
+    (b : buildGave (Runs m) starts hops ≡ buildHalf (listLent k (l .keys) (l .hops)) t)
+    (b′ : buildGave (Runs m′) starts′ hops′ ≡ buildHalf (listLent n keys labels) t′) where
+  pub split-then-run-lookup : {a : ℕ} (r r′ : Probed) → a < addresses → runLookupGave r ≡ runLookup (runsLent m starts hops) a
+      → runLookupGave r′ ≡ runLookup (runsLent m′ starts′ hops′) a → RunsRejoined l a r r′
+  split-then-run-lookup {a} r r′ below q q′ =
+      let joined = split-then-lookup k l out e a in
+      let one = first-is k l out e a in
+      let other = second-is k l out e a in
+      let label = plain (firstHalf k (rowsLent l)) a in
+      let label′ = plain (secondHalf k (rowsLent l)) a in
+      let found = build-half-then-lookup (listLent k (l .keys) (l .hops)) t b r (Hop label) below q (sym one) in
+      let found′ = build-half-then-lookup (listLent n keys labels) t′ b′ r′ (Hop label′) below q′ (sym other) in
+      record {
+        plain-done = joined .plain-done;
+        first-done = found .0;
+        second-done = found′ .0;
+        xor = rw (found .1, found′ .1) (rw (one, other) at (joined .xor));
+      }
