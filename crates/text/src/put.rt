@@ -35,17 +35,42 @@ fn short(out: &mut [u8], n: u64) -> usize
     3
 }
 
-// A number in decimal, its first digit first.
-pub fn decimal(out: &mut [u8], n: u64) -> usize
-    requires { ⌜ length (decimal n) ≤ length (now out) ⌝ }
+// A number of at most five digits in decimal. Hops are such numbers.
+fn five(out: &mut [u8], n: u64) -> usize
+    requires { ⌜ (n < 100000) × (length (decimal n) ≤ length (now out)) ⌝ }
     ensures { λ r. ⌜ Wrote (decimal n) r (now (out .entry)) (now (out .exit)) ⌝ }
 {
     if n < 1000 {
         return short(out, n);
     }
-    let at = decimal(out, n / 10);
+    let at = short(out, n / 100);
+    out[at] = digit(n / 10 % 10);
+    out[at + 1] = digit(n % 10);
+    at + 2
+}
+
+// A number of any length in decimal.
+fn long(out: &mut [u8], n: u64) -> usize
+    requires { ⌜ length (decimal n) ≤ length (now out) ⌝ }
+    ensures { λ r. ⌜ Wrote (decimal n) r (now (out .entry)) (now (out .exit)) ⌝ }
+{
+    if n < 100000 {
+        return five(out, n);
+    }
+    let at = long(out, n / 10);
     out[at] = digit(n % 10);
     at + 1
+}
+
+// A number in decimal, its first digit first. Numbers of rows are short, and only others take a call.
+pub fn decimal(out: &mut [u8], n: u64) -> usize
+    requires { ⌜ length (decimal n) ≤ length (now out) ⌝ }
+    ensures { λ r. ⌜ Wrote (decimal n) r (now (out .entry)) (now (out .exit)) ⌝ }
+{
+    if n < 100000 {
+        return five(out, n);
+    }
+    long(out, n)
 }
 
 // A number in decimal at a place, with the byte that stands after it.
