@@ -14,7 +14,7 @@ use borrow.Author.Tests.{ne-eqb, lt-ltb, le-ltb}
 use Rattle.ground.specs.Stretch.{picked, keep, turns, turnsFrom}
 use Rattle.ground.specs.Stretch.Laws.{picked-none, picked-suc, picked-cut, picked-agree}
 use Rattle.ground.specs.Stretch.Turns.{turns-at-first}
-use Rattle.edit.specs.Inside.Seams.{one}
+use Rattle.edit.specs.Inside.Seams.{Outside, one}
 
 -- a number of its own in front of a stretch
 picked-one : (p : ℕ → Bool) (lo n : ℕ) → picked p lo (suc n) ≡ one (p lo) lo ++ picked p (suc lo) n
@@ -46,15 +46,14 @@ turns-past : (first first′ : ℕ) (g : ℕ → ℕ) (a : ℕ) → first < a �
 unfolding turnsFrom
 turns-past first first′ g a l l′ = rw (ne-eqb a first (λ z. omega arith), ne-eqb a first′ (λ z. omega arith))
 
-module _ (f g : ℕ → ℕ) (net end N : ℕ) (some : net < end) (fits : end ≤ N)
-    (below : (a : ℕ) → a < net → g a ≡ f a) (above : (a : ℕ) → end ≤ a → g a ≡ f a) where
+module _ (f g : ℕ → ℕ) (net end N : ℕ) (o : Outside f g net end N) where
   low-same : picked (turns g) 0 net ≡ picked (turns f) 0 net
   low-same = picked-agree (turns g) (turns f) 0 net
-      (λ a ge lt. turns-agree 0 f g a (below a (omega arith)) (below (a - 1) (omega arith)))
+      (λ a ge lt. turns-agree 0 f g a (o .below a (omega arith)) (o .below (a - 1) (omega arith)))
 
   high-same : picked (turns g) (suc end) (N - suc end) ≡ picked (turns f) (suc end) (N - suc end)
   high-same = picked-agree (turns g) (turns f) (suc end) (N - suc end)
-      (λ a ge lt. turns-agree 0 f g a (above a (omega arith)) (above (a - 1) (omega arith)))
+      (λ a ge lt. turns-agree 0 f g a (o .above a (omega arith) (omega arith)) (o .above (a - 1) (omega arith) (omega arith)))
 
   pub starts-cut : picked (turns g) 0 N
       ≡ picked (turns f) 0 net
@@ -66,7 +65,7 @@ module _ (f g : ℕ → ℕ) (net end N : ℕ) (some : net < end) (fits : end �
       let there : suc net + (end - suc net) ≡ end = omega arith in
       ap (picked (turns g) 0) whole
       ∙ picked-cut (turns g) 0 net (suc ((end - suc net) + (N - end)))
-      ∙ rw (zero-add, picked-one (turns g) net, picked-cut (turns g) (suc net), there, picked-first (turns g) end N, low-same, high-same)
+      ∙ rw (zero-add, picked-one (turns g) net, picked-cut (turns g) (suc net), there, picked-first (turns g) end N (o .fits), low-same, high-same)
 
 pub middle-is : (g : ℕ → ℕ) (net end : ℕ) → net < end
     → picked (turnsFrom net g) net (end - net) ≡ net ∷ picked (turns g) (suc net) (end - suc net)
