@@ -1,27 +1,23 @@
 -- The table after an edit, column by column: the old runs below net, those inside with or without the first, one at end or none, and the old
--- ones above end. At net a run begins unless g goes on there with the hop of the old run before it, and at end unless the old run that holds
--- end goes on with what g is one before. The hops go with the starts, since g is f below net and from end on.
+-- ones above end. The hops go with the starts, since g is f below net and from end on.
 -- Assumes nothing.
-use mathlib.Core.Path.{_≡_, refl, sym, ap, _∙_}
-use mathlib.Core.Bool.{Bool, true, false, not, _&&_, _||_}
-use mathlib.Core.Logic.{⊎-elim}
-use mathlib.Core.List.{List, [], _∷_, _++_, append-assoc, map, map-append}
+use mathlib.Core.Path.{_≡_, refl, sym, _∙_}
+use mathlib.Core.Bool.{Bool, true, false, not, _&&_}
+use mathlib.Core.List.{List, _∷_, _++_, append-assoc, map, map-append}
 use Prim.Native.Nat.{ℕ, zero, suc, _+_, _-_, _≤_, _<_}
-use native.Mathlib.Nat.{eq-zero-or-pos}
 use native.Mathlib.Numerals.{add-one}
 use native.Mathlib.Omega.{arith}
-use lib.ListN.{length, getD, take, drop, length-append}
-use lib.Dec.{eqb, ltb, leb}
-use borrow.Author.Tests.{eq-eqb, ne-eqb, ltb-true, ltb-false, lt-ltb, le-ltb, le-leb, lt-leb}
-use Rattle.ground.specs.Column.{lower}
-use Rattle.ground.specs.Stretch.{picked, keep, turns, turnsFrom}
+use lib.ListN.{getD, take, drop}
+use lib.Dec.{ltb}
+use borrow.Author.Tests.{ltb-true}
+use Rattle.ground.specs.Stretch.{picked, keep, turns}
 use Rattle.ground.specs.Stretch.Laws.{picked-none, picked-suc}
-use Rattle.ground.specs.Stretch.Picks.{Picks, picks}
-use Rattle.ground.proofs.Truth.{decided, and-left}
+use Rattle.ground.proofs.Truth.{and-left}
 use Rattle.ground.proofs.Map.{map-take, map-drop}
 use Rattle.edit.specs.Inside.Seams.{Outside, RunsOf, Seams, one, seam, joined}
 use Rattle.edit.proofs.Cut.{starts-cut, middle-is}
-use Rattle.edit.proofs.Old.{take-lower, drop-lower, hop-holding}
+use Rattle.edit.proofs.Old.{take-lower, drop-lower}
+use Rattle.edit.proofs.Seams.{hop-at-end, turns-net, turns-end}
 
 -- functions that agree on a stretch make the same of what is picked from it
 map-picked : (p : ℕ → Bool) (f g : ℕ → ℕ) (lo n : ℕ) → ((a : ℕ) → lo ≤ a → a < lo + n → g a ≡ f a)
@@ -35,92 +31,60 @@ map-picked p f g lo (suc n) h =
     go true e = rw (e, h lo (omega arith) (omega arith))
     go false e = e
 
-module _ (f g : ℕ → ℕ) (net end N : ℕ) (o : Outside f g net end N) (starts hops : List ℕ) (old : RunsOf f 0 N starts hops) where
-  old-picks : Picks (turns f) 0 N starts
-  old-picks = rw (old .starts-are) (picks (turns f) 0 N)
+module _ (f g : ℕ → ℕ) (net end N : ℕ) (o : Outside f g net end N) (starts hops : List ℕ) (old : RunsOf f 0 N starts hops)
+    (i j : ℕ) (before behind : Bool) (s : Seams g net end N starts hops i j before behind) where
+  low-is : picked (turns f) 0 net ≡ take i starts
+  low-is = rw (s .place, old .starts-are) (sym (take-lower (turns f) N net (omega (arith, o .some, o .fits))))
 
-  pub hop-before : 0 < net → getD hops (lower net starts - 1) 0 ≡ f (net - 1)
-  hop-before pos = rw (old .hops-are) (hop-holding f N net starts old-picks pos (omega (arith, o .some, o .fits)))
+  high-is : picked (turns f) (suc end) (N - suc end) ≡ drop j starts
+  high-is = rw (s .past, old .starts-are, add-one) (sym (drop-lower (turns f) N (suc end)))
 
-  pub hop-at-end : end < N → getD hops (lower (end + 1) starts - 1) 0 ≡ f end
-  hop-at-end l =
-      let one-more : end + 1 - 1 ≡ end = omega arith in
-      rw (old .hops-are) (rw one-more at (hop-holding f N (end + 1) starts old-picks (omega arith) (omega arith)))
+  low-hops : map g (take i starts) ≡ take i hops
+  low-hops =
+      let same : map g (take i starts) ≡ map f (take i starts) =
+      rw (← low-is) (map-picked (turns f) f g 0 net (λ a ge lt. o .below a (omega arith)))
+      in
+      same ∙ rw (old .hops-are) (map-take f i starts)
 
-  module _ (i j : ℕ) (before behind : Bool) (s : Seams g net end N starts hops i j before behind) where
-    turns-net : turns g net ≡ not before
-    unfolding turnsFrom
-    turns-net = rw (s .joins-before) (⊎-elim zeroth later (eq-zero-or-pos net))
+  high-hops : map g (drop j starts) ≡ drop j hops
+  high-hops =
+      let same : map g (drop j starts) ≡ map f (drop j starts) =
+      rw (← high-is) (map-picked (turns f) f g (suc end) (N - suc end) (λ a ge lt. o .above a (omega arith) (omega arith)))
+      in
+      same ∙ rw (old .hops-are) (map-drop f j starts)
+
+  end-hop : map g (one (not behind) end) ≡ one (not behind) (getD hops (j - 1) 0)
+  end-hop = rw (← turns-end f g net end N o starts hops old i j before behind s) (go (ltb end N && turns g end) refl)
+    where
+      go : (b : Bool) → (ltb end N && turns g end) ≡ b → map g (one b end) ≡ one b (getD hops (j - 1) 0)
+      go false e = refl
+      go true e =
+          let l : end < N = ltb-true end N (and-left (ltb end N) (turns g end) e) in
+          rw (s .past, hop-at-end f g net end N o starts hops old l, o .above end (omega arith) l)
+
+  module _ (inner inner-hops : List ℕ) (inside : RunsOf g net (end - net) inner inner-hops) where
+    inside-is : one (turns g net) net ++ picked (turns g) (suc net) (end - suc net) ≡ seam before inner
+    inside-is = rw (turns-net f g net end N o starts hops old i j before behind s, inside .starts-are, middle-is g net end (o .some)) (go before)
       where
-        zeroth : net ≡ 0 → (eqb net 0 || not (eqb (g net) (g (net - 1)))) ≡ not (ltb 0 net && eqb (g net) (getD hops (i - 1) 0))
-        zeroth e = rw (eq-eqb net 0 e, le-ltb 0 net (omega arith))
+        go : (b : Bool) → one (not b) net ++ picked (turns g) (suc net) (end - suc net)
+            ≡ seam b (net ∷ picked (turns g) (suc net) (end - suc net))
+        go true = refl
+        go false = refl
 
-        later : 0 < net → (eqb net 0 || not (eqb (g net) (g (net - 1)))) ≡ not (ltb 0 net && eqb (g net) (getD hops (i - 1) 0))
-        later l =
-            rw (ne-eqb net 0 (λ z. omega arith), lt-ltb 0 net l, s .place, hop-before l, o .below (net - 1) (omega arith))
-
-    turns-end : (ltb end N && turns g end) ≡ not behind
-    unfolding turnsFrom
-    turns-end = rw (s .joins-behind) (⊎-elim (λ e. within (ltb-true end N e)) (λ e. last (ltb-false end N e)) (decided (ltb end N)))
+    inside-hops : map g (seam before inner) ≡ seam before inner-hops
+    inside-hops = rw (inside .hops-are) (go before)
       where
-        last : N ≤ end
-            → (ltb end N && (eqb end 0 || not (eqb (g end) (g (end - 1))))) ≡ not (leb N end || eqb (getD hops (j - 1) 0) (g (end - 1)))
-        last l = rw (le-ltb end N l, le-leb N end l)
+        go : (b : Bool) → map g (seam b inner) ≡ seam b (map g inner)
+        go true = map-drop g 1 inner
+        go false = refl
 
-        within : end < N
-            → (ltb end N && (eqb end 0 || not (eqb (g end) (g (end - 1))))) ≡ not (leb N end || eqb (getD hops (j - 1) 0) (g (end - 1)))
-        within l =
-            rw (ne-eqb end 0 (λ z. omega (arith, o .some)), lt-ltb end N l, lt-leb N end l, s .past, hop-at-end l, o .above end (omega arith) l)
+    new-starts : joined i j before behind end inner starts ≡ picked (turns g) 0 N
+    new-starts = sym
+        (starts-cut f g net end N o
+        ∙ rw (low-is, turns-end f g net end N o starts hops old i j before behind s, high-is, ← append-assoc (one (turns g net) net) (picked (turns g) (suc net) (end - suc net)), inside-is))
 
-    low-is : picked (turns f) 0 net ≡ take i starts
-    low-is = rw (s .place, old .starts-are) (sym (take-lower (turns f) N net (omega (arith, o .some, o .fits))))
+    new-hops : joined i j before behind (getD hops (j - 1) 0) inner-hops hops ≡ map g (joined i j before behind end inner starts)
+    new-hops = sym (simp map-append (rw (low-hops, inside-hops, end-hop, high-hops)))
 
-    high-is : picked (turns f) (suc end) (N - suc end) ≡ drop j starts
-    high-is = rw (s .past, old .starts-are, add-one) (sym (drop-lower (turns f) N (suc end)))
-
-    low-hops : map g (take i starts) ≡ take i hops
-    low-hops =
-        let same : map g (take i starts) ≡ map f (take i starts) =
-        rw (← low-is) (map-picked (turns f) f g 0 net (λ a ge lt. o .below a (omega arith)))
-        in
-        same ∙ rw (old .hops-are) (map-take f i starts)
-
-    high-hops : map g (drop j starts) ≡ drop j hops
-    high-hops =
-        let same : map g (drop j starts) ≡ map f (drop j starts) =
-        rw (← high-is) (map-picked (turns f) f g (suc end) (N - suc end) (λ a ge lt. o .above a (omega arith) (omega arith)))
-        in
-        same ∙ rw (old .hops-are) (map-drop f j starts)
-
-    end-hop : map g (one (not behind) end) ≡ one (not behind) (getD hops (j - 1) 0)
-    end-hop = rw (← turns-end) (go (ltb end N && turns g end) refl)
-      where
-        go : (b : Bool) → (ltb end N && turns g end) ≡ b → map g (one b end) ≡ one b (getD hops (j - 1) 0)
-        go false e = refl
-        go true e =
-            let l : end < N = ltb-true end N (and-left (ltb end N) (turns g end) e) in
-            rw (s .past, hop-at-end l, o .above end (omega arith) l)
-
-    module _ (inner inner-hops : List ℕ) (inside : RunsOf g net (end - net) inner inner-hops) where
-      inside-is : one (turns g net) net ++ picked (turns g) (suc net) (end - suc net) ≡ seam before inner
-      inside-is = rw (turns-net, inside .starts-are, middle-is g net end (o .some)) (go before)
-        where
-          go : (b : Bool) → one (not b) net ++ picked (turns g) (suc net) (end - suc net)
-              ≡ seam b (net ∷ picked (turns g) (suc net) (end - suc net))
-          go true = refl
-          go false = refl
-
-      inside-hops : map g (seam before inner) ≡ seam before inner-hops
-      inside-hops = rw (inside .hops-are) (go before)
-        where
-          go : (b : Bool) → map g (seam b inner) ≡ seam b (map g inner)
-          go true = map-drop g 1 inner
-          go false = refl
-
-      new-starts : joined i j before behind end inner starts ≡ picked (turns g) 0 N
-      new-starts = sym
-          (starts-cut f g net end N o
-          ∙ rw (low-is, turns-end, high-is, ← append-assoc (one (turns g net) net) (picked (turns g) (suc net) (end - suc net)), inside-is))
-
-      new-hops : joined i j before behind (getD hops (j - 1) 0) inner-hops hops ≡ map g (joined i j before behind end inner starts)
-      new-hops = sym (simp map-append (rw (low-hops, inside-hops, end-hop, high-hops)))
+    pub joined-runs : RunsOf g 0 N (joined i j before behind end inner starts) (joined i j before behind (getD hops (j - 1) 0) inner-hops hops)
+    joined-runs = record { starts-are = new-starts; hops-are = new-hops }
