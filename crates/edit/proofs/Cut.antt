@@ -1,6 +1,6 @@
--- Two answers f and g that agree outside the numbers from net up to end turn at the same numbers below net and above end. So the turns of g
--- are those of f below net, net or not, those of g inside, end or not, and those of f above end. Inside, with net in any case, they are what
--- g has by itself from net on.
+-- Two answers f and g that agree outside the numbers from net up to end turn at the same numbers below net and above end. So the turns of
+-- g are those of f below net, net or not, those of g inside, end or not, and those of f above end. Those inside, with net before them in
+-- any case, are the turns of g from net on.
 -- Assumes nothing.
 use mathlib.Core.Path.{_≡_, refl, ap, _∙_}
 use mathlib.Core.Bool.{Bool, true, false, _&&_}
@@ -37,14 +37,14 @@ picked-first p lo hi le = ⊎-elim
     (eq-or-lt-of-le le)
 
 -- whether a function turns at a number is told by its values there and one before
-turns-agree : (first : ℕ) (f g : ℕ → ℕ) (a : ℕ) → g a ≡ f a → g (a - 1) ≡ f (a - 1) → turnsFrom first g a ≡ turnsFrom first f a
+pub turns-agree : (first : ℕ) (f g : ℕ → ℕ) (a : ℕ) → g a ≡ f a → g (a - 1) ≡ f (a - 1) → turnsFrom first g a ≡ turnsFrom first f a
 unfolding turnsFrom
 turns-agree first f g a here back = rw (here, back)
 
--- past both firsts it doesn't matter which it is
-turns-past : (first first′ : ℕ) (g : ℕ → ℕ) (a : ℕ) → first < a → first′ < a → turnsFrom first g a ≡ turnsFrom first′ g a
+-- past the first number it doesn't matter which that is
+turns-past : (first : ℕ) (g : ℕ → ℕ) (a : ℕ) → first < a → turnsFrom first g a ≡ turns g a
 unfolding turnsFrom
-turns-past first first′ g a l l′ = rw (ne-eqb a first (λ z. omega arith), ne-eqb a first′ (λ z. omega arith))
+turns-past first g a l = rw (ne-eqb a first (λ z. omega arith), ne-eqb a 0 (λ z. omega arith))
 
 module _ (f g : ℕ → ℕ) (net end N : ℕ) (o : Outside f g net end N) where
   low-same : picked (turns g) 0 net ≡ picked (turns f) 0 net
@@ -65,11 +65,12 @@ module _ (f g : ℕ → ℕ) (net end N : ℕ) (o : Outside f g net end N) where
       let there : suc net + (end - suc net) ≡ end = omega arith in
       ap (picked (turns g) 0) whole
       ∙ picked-cut (turns g) 0 net (suc ((end - suc net) + (N - end)))
-      ∙ rw (zero-add, picked-one (turns g) net, picked-cut (turns g) (suc net), there, picked-first (turns g) end N (o .fits), low-same, high-same)
+      ∙ rw (zero-add, picked-one (turns g) net, picked-cut (turns g) (suc net), there, picked-first (turns g) end N (o .fits))
+      (rw (low-same, high-same))
 
 pub middle-is : (g : ℕ → ℕ) (net end : ℕ) → net < end
     → picked (turnsFrom net g) net (end - net) ≡ net ∷ picked (turns g) (suc net) (end - suc net)
 middle-is g net end some =
     let more : end - net ≡ suc (end - suc net) = omega arith in
-    let rest = picked-agree (turnsFrom net g) (turns g) (suc net) (end - suc net) (λ a ge lt. turns-past net 0 g a (omega arith) (omega arith)) in
+    let rest = picked-agree (turnsFrom net g) (turns g) (suc net) (end - suc net) (λ a ge lt. turns-past net g a ge) in
     rw (more, picked-suc, turns-at-first, rest)

@@ -1,5 +1,5 @@
--- The table after an edit, column by column: the old runs below net, those inside with or without the first, one at end or none, and the old
--- ones above end. The hops go with the starts, since g is f below net and from end on.
+-- The table after an edit, column by column: the old runs below net, those inside with or without the first, one at end or none, and the
+-- old ones above end. The hops go with the starts, since g is f below net and from end on.
 -- Assumes nothing.
 use mathlib.Core.Path.{_≡_, refl, sym, _∙_}
 use mathlib.Core.Bool.{Bool, true, false, not, _&&_}
@@ -20,7 +20,7 @@ use Rattle.edit.proofs.Old.{take-lower, drop-lower}
 use Rattle.edit.proofs.Seams.{hop-at-end, turns-net, turns-end}
 
 -- functions that agree on a stretch make the same of what is picked from it
-map-picked : (p : ℕ → Bool) (f g : ℕ → ℕ) (lo n : ℕ) → ((a : ℕ) → lo ≤ a → a < lo + n → g a ≡ f a)
+pub map-picked : (p : ℕ → Bool) (f g : ℕ → ℕ) (lo n : ℕ) → ((a : ℕ) → lo ≤ a → a < lo + n → g a ≡ f a)
     → map g (picked p lo n) ≡ map f (picked p lo n)
 map-picked p f g lo zero h = rw picked-none
 map-picked p f g lo (suc n) h =
@@ -33,25 +33,21 @@ map-picked p f g lo (suc n) h =
 
 module _ (f g : ℕ → ℕ) (net end N : ℕ) (o : Outside f g net end N) (starts hops : List ℕ) (old : RunsOf f 0 N starts hops)
     (i j : ℕ) (before behind : Bool) (s : Seams g net end N starts hops i j before behind) where
-  low-is : picked (turns f) 0 net ≡ take i starts
+  pub low-is : picked (turns f) 0 net ≡ take i starts
   low-is = rw (s .place, old .starts-are) (sym (take-lower (turns f) N net (omega (arith, o .some, o .fits))))
 
-  high-is : picked (turns f) (suc end) (N - suc end) ≡ drop j starts
+  pub high-is : picked (turns f) (suc end) (N - suc end) ≡ drop j starts
   high-is = rw (s .past, old .starts-are, add-one) (sym (drop-lower (turns f) N (suc end)))
 
   low-hops : map g (take i starts) ≡ take i hops
   low-hops =
-      let same : map g (take i starts) ≡ map f (take i starts) =
-      rw (← low-is) (map-picked (turns f) f g 0 net (λ a ge lt. o .below a (omega arith)))
-      in
-      same ∙ rw (old .hops-are) (map-take f i starts)
+      let same = map-picked (turns f) f g 0 net (λ a ge lt. o .below a (omega arith)) in
+      (rw low-is at same) ∙ rw (old .hops-are) (map-take f i starts)
 
   high-hops : map g (drop j starts) ≡ drop j hops
   high-hops =
-      let same : map g (drop j starts) ≡ map f (drop j starts) =
-      rw (← high-is) (map-picked (turns f) f g (suc end) (N - suc end) (λ a ge lt. o .above a (omega arith) (omega arith)))
-      in
-      same ∙ rw (old .hops-are) (map-drop f j starts)
+      let same = map-picked (turns f) f g (suc end) (N - suc end) (λ a ge lt. o .above a (omega arith) (omega arith)) in
+      (rw high-is at same) ∙ rw (old .hops-are) (map-drop f j starts)
 
   end-hop : map g (one (not behind) end) ≡ one (not behind) (getD hops (j - 1) 0)
   end-hop = rw (← turns-end f g net end N o starts hops old i j before behind s) (go (ltb end N && turns g end) refl)
@@ -64,7 +60,8 @@ module _ (f g : ℕ → ℕ) (net end N : ℕ) (o : Outside f g net end N) (star
 
   module _ (inner inner-hops : List ℕ) (inside : RunsOf g net (end - net) inner inner-hops) where
     inside-is : one (turns g net) net ++ picked (turns g) (suc net) (end - suc net) ≡ seam before inner
-    inside-is = rw (turns-net f g net end N o starts hops old i j before behind s, inside .starts-are, middle-is g net end (o .some)) (go before)
+    inside-is =
+        rw (turns-net f g net end N o starts hops old i j before behind s, inside .starts-are, middle-is g net end (o .some)) (go before)
       where
         go : (b : Bool) → one (not b) net ++ picked (turns g) (suc net) (end - suc net)
             ≡ seam b (net ∷ picked (turns g) (suc net) (end - suc net))
@@ -79,12 +76,14 @@ module _ (f g : ℕ → ℕ) (net end N : ℕ) (o : Outside f g net end N) (star
         go false = refl
 
     new-starts : joined i j before behind end inner starts ≡ picked (turns g) 0 N
-    new-starts = sym
-        (starts-cut f g net end N o
-        ∙ rw (low-is, turns-end f g net end N o starts hops old i j before behind s, high-is, ← append-assoc (one (turns g net) net) (picked (turns g) (suc net) (end - suc net)), inside-is))
+    new-starts =
+        let at-end = turns-end f g net end N o starts hops old i j before behind s in
+        let regroup = append-assoc (one (turns g net) net) (picked (turns g) (suc net) (end - suc net)) in
+        sym (starts-cut f g net end N o ∙ rw (low-is, at-end, high-is, ← regroup, inside-is))
 
     new-hops : joined i j before behind (getD hops (j - 1) 0) inner-hops hops ≡ map g (joined i j before behind end inner starts)
     new-hops = sym (simp map-append (rw (low-hops, inside-hops, end-hop, high-hops)))
 
-    pub joined-runs : RunsOf g 0 N (joined i j before behind end inner starts) (joined i j before behind (getD hops (j - 1) 0) inner-hops hops)
+    pub joined-runs : RunsOf g 0 N (joined i j before behind end inner starts)
+        (joined i j before behind (getD hops (j - 1) 0) inner-hops hops)
     joined-runs = record { starts-are = new-starts; hops-are = new-hops }

@@ -1,23 +1,23 @@
 -- The turns of an answer f below N, as a column that ascends from 0. Those below k are its first ones, as many as are lower than k, and the
 -- others are behind them. The last one below k is where the run begins that holds k - 1, so f of it is f (k - 1).
 -- Assumes nothing.
-use mathlib.Core.Path.{_≡_, refl, sym, ap, _∙_}
+use mathlib.Core.Path.{_≡_, refl, ap, _∙_}
 use mathlib.Core.Bool.{Bool, true, false}
 use mathlib.Core.Logic.{⊎-elim}
-use mathlib.Core.List.{List, [], _∷_, _++_, map}
-use Prim.Native.Nat.{ℕ, suc, _+_, _-_, _≤_, _<_}
+use mathlib.Core.List.{List, _++_, map}
+use Prim.Native.Nat.{ℕ, _+_, _-_, _≤_, _<_}
 use native.Mathlib.Nat.{zero-add}
 use native.Mathlib.Omega.{arith}
 use lib.ListN.{length, getD, take, drop, length-append, List·getD-append, drop-of-length-le}
 use lib.Seq.{take-at, drop-at, getD-append-add}
 use lib.Dec.{leb, ltb, eqb}
 use borrow.Author.Tests.{leb-true, leb-false, ltb-true, ltb-false, eqb-true, eqb-false}
-use Rattle.ground.proofs.Truth.{decided}
 use Rattle.ground.specs.Column.{ascends, lower}
 use Rattle.ground.specs.Stretch.{picked, turns}
 use Rattle.ground.specs.Stretch.Laws.{picked-none, picked-cut}
 use Rattle.ground.specs.Stretch.Picks.{Picks, picks, picks-front}
 use Rattle.ground.specs.Stretch.Turns.{turns-at-first, same-between-turns}
+use Rattle.ground.proofs.Truth.{decided}
 use Rattle.ground.proofs.Ascends.{ascends-of}
 use Rattle.ground.proofs.Map.{getD-map}
 use Rattle.ground.proofs.Lower.{lower-at, lower-within, lower-beyond, lower-mono, lower-le}
@@ -40,7 +40,9 @@ lower-picked p lo m n =
     parts = picked-cut p lo m n
 
     last : 0 < length (picked p lo m) → getD (picked p lo (m + n)) (length (picked p lo m) - 1) 0 < lo + m
-    last some = rw (parts, List·getD-append front back 0 (length front - 1) (omega arith)) (picks p lo m .below (length front - 1) (omega arith))
+    last some =
+        let at = length front - 1 in
+        rw (parts, List·getD-append front back 0 at (omega arith)) (picks p lo m .below at (omega arith))
 
     next : length (picked p lo m) < length (picked p lo (m + n)) → lo + m ≤ getD (picked p lo (m + n)) (length (picked p lo m)) 0
     next more =
@@ -116,4 +118,4 @@ module _ (f : ℕ → ℕ) (N k : ℕ) (starts : List ℕ) (t : Picks (turns f) 
           rw there at (t .pass (lower k starts - 1) last-in)
       go false e =
           let other : getD starts (lower k starts - 1) 0 ≡ k - 1 → ⊥ = eqb-false _ _ e in
-          t .between (lower k starts - 1) (k - 1) last-in (omega (arith, last-below)) (omega arith) (λ more. omega (arith, next-beyond more))
+          t .between _ (k - 1) last-in (omega (arith, last-below)) (omega arith) (λ more. omega (arith, next-beyond more))

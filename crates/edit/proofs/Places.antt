@@ -3,22 +3,22 @@
 -- Assumes nothing.
 use mathlib.Core.Path.{_≡_, refl, sym, ap, _∙_}
 use mathlib.Core.Bool.{Bool, true, false, cond, not}
-use mathlib.Core.List.{List, map}
+use mathlib.Core.List.{List}
 use Prim.Native.Nat.{ℕ, _+_, _-_, _≤_, _<_}
 use native.Mathlib.Omega.{arith}
-use lib.ListN.{length, getD, take, drop, length-append, length-drop, length-map}
+use lib.ListN.{length, getD, length-append, length-drop, length-map}
 use lib.Seq.{length-take-le}
-use borrow.Author.Tests.{ltb-true}
 use lib.Dec.{ltb}
+use borrow.Author.Tests.{ltb-true}
 use Rattle.ground.specs.Stretch.{picked, turns, turnsFrom}
-use Rattle.ground.specs.Stretch.Laws.{picked-agree}
-use Rattle.ground.specs.Stretch.Picks.{Picks, picks, picks-front}
+use Rattle.ground.specs.Stretch.Picks.{picks-front}
 use Rattle.ground.specs.Stretch.Turns.{turns-at-first, same-between-turns}
 use Rattle.ground.proofs.Truth.{and-left}
 use Rattle.ground.proofs.Map.{getD-map}
 use Rattle.ground.proofs.Lower.{lower-le, lower-mono}
 use Rattle.edit.specs.Inside.Seams.{Outside, RunsOf, Seams, one, seam, joined, joinedCount}
 use Rattle.edit.proofs.Old.{lower-some}
+use Rattle.edit.proofs.Seams.{runs-pick}
 use Rattle.edit.proofs.Joined.{joined-runs}
 
 pub length-joined : (i j : ℕ) (before behind : Bool) (x : ℕ) (inner old : List ℕ) → i ≤ length old
@@ -42,16 +42,13 @@ module _ (f g : ℕ → ℕ) (net end N : ℕ) (o : Outside f g net end N) (star
   pub past-in : j ≤ length starts
   past-in = omega (arith, s .past, lower-le (end + 1) starts)
 
-  old-picks : Picks (turns f) 0 N starts
-  old-picks = rw (old .starts-are) (picks (turns f) 0 N)
-
   pub past-some : 0 < j
   past-some =
-      let some = lower-some f N 1 starts old-picks (omega arith) (omega (arith, o .some, o .fits)) in
+      let some = lower-some f N 1 starts (runs-pick old) (omega arith) (omega (arith, o .some, o .fits)) in
       omega (arith, s .past, lower-mono 1 (end + 1) (omega arith) starts)
 
   pub place-some : 0 < net → 0 < i
-  place-some l = omega (arith, s .place, lower-some f N net starts old-picks l (omega (arith, o .some, o .fits)))
+  place-some l = omega (arith, s .place, lower-some f N net starts (runs-pick old) l (omega (arith, o .some, o .fits)))
 
   -- the run that is joined at net is there
   pub joins-some : before ≡ true → 0 < i
@@ -64,11 +61,8 @@ module _ (f g : ℕ → ℕ) (net end N : ℕ) (o : Outside f g net end N) (star
       ap length (sym (runs .starts-are)) ∙ length-joined i j before behind end inner starts (omega (arith, place-le-past, past-in))
 
 module _ (g : ℕ → ℕ) (net end : ℕ) (some : net < end) (inner inner-hops : List ℕ) (inside : RunsOf g net (end - net) inner inner-hops) where
-  inner-picks : Picks (turnsFrom net g) net (end - net) inner
-  inner-picks = rw (inside .starts-are) (picks (turnsFrom net g) net (end - net))
-
   inner-front : (0 < length inner) × (getD inner 0 0 ≡ net)
-  inner-front = picks-front (turnsFrom net g) net (end - net) inner inner-picks (omega arith) (turns-at-first net g)
+  inner-front = picks-front (turnsFrom net g) net (end - net) inner (runs-pick inside) (omega arith) (turns-at-first net g)
 
   pub inner-some : 0 < length inner
   inner-some = inner-front .0
@@ -82,8 +76,8 @@ module _ (g : ℕ → ℕ) (net end : ℕ) (some : net < end) (inner inner-hops 
   pub last-hop : getD inner-hops (length inner - 1) 0 ≡ g (end - 1)
   last-hop =
       let last : length inner - 1 < length inner = omega (arith, inner-some) in
-      let below = inner-picks .below (length inner - 1) last in
+      let below = runs-pick inside .below (length inner - 1) last in
       rw (inside .hops-are)
       (getD-map g inner (length inner - 1) last
-      ∙ same-between-turns net g (end - net) inner inner-picks (length inner - 1) (end - 1) last (omega arith) (omega arith)
+      ∙ same-between-turns net g (end - net) inner (runs-pick inside) (length inner - 1) (end - 1) last (omega arith) (omega arith)
       (λ more. absurd (omega arith)))

@@ -18,23 +18,23 @@ use Rattle.ground.proofs.Truth.{decided}
 use Rattle.edit.specs.Inside.Seams.{Outside, RunsOf, Seams}
 use Rattle.edit.proofs.Old.{hop-holding, start-holding}
 
-module _ (f g : ℕ → ℕ) (net end N : ℕ) (o : Outside f g net end N) (starts hops : List ℕ) (old : RunsOf f 0 N starts hops) where
-  old-picks : Picks (turns f) 0 N starts
-  old-picks = rw (old .starts-are) (picks (turns f) 0 N)
+pub runs-pick : {f : ℕ → ℕ} {first n : ℕ} {starts hops : List ℕ} → RunsOf f first n starts hops → Picks (turnsFrom first f) first n starts
+runs-pick {f} {first} {n} r = rw (r .starts-are) (picks (turnsFrom first f) first n)
 
+module _ (f g : ℕ → ℕ) (net end N : ℕ) (o : Outside f g net end N) (starts hops : List ℕ) (old : RunsOf f 0 N starts hops) where
   pub hop-before : 0 < net → getD hops (lower net starts - 1) 0 ≡ f (net - 1)
-  hop-before pos = rw (old .hops-are) (hop-holding f N net starts old-picks pos (omega (arith, o .some, o .fits)))
+  hop-before pos = rw (old .hops-are) (hop-holding f N net starts (runs-pick old) pos (omega (arith, o .some, o .fits)))
 
   pub hop-at-end : end < N → getD hops (lower (end + 1) starts - 1) 0 ≡ f end
   hop-at-end l =
       let one-more : end + 1 - 1 ≡ end = omega arith in
-      rw (old .hops-are) (rw one-more at (hop-holding f N (end + 1) starts old-picks (omega arith) (omega arith)))
+      rw (old .hops-are) (rw one-more at (hop-holding f N (end + 1) starts (runs-pick old) (omega arith) (omega arith)))
 
   -- an old run begins at end exactly if the one that holds end does
   pub start-at-end : end < N → turns f end ≡ eqb (getD starts (lower (end + 1) starts - 1) 0) end
   start-at-end l =
       let one-more : end + 1 - 1 ≡ end = omega arith in
-      rw one-more at (start-holding f N (end + 1) starts old-picks (omega arith) (omega arith))
+      rw one-more at (start-holding f N (end + 1) starts (runs-pick old) (omega arith) (omega arith))
 
   module _ (i j : ℕ) (before behind : Bool) (s : Seams g net end N starts hops i j before behind) where
     pub turns-net : turns g net ≡ not before
@@ -59,4 +59,5 @@ module _ (f g : ℕ → ℕ) (net end N : ℕ) (o : Outside f g net end N) (star
         within : end < N
             → (ltb end N && (eqb end 0 || not (eqb (g end) (g (end - 1))))) ≡ not (leb N end || eqb (getD hops (j - 1) 0) (g (end - 1)))
         within l =
-            rw (ne-eqb end 0 (λ z. omega (arith, o .some)), lt-ltb end N l, lt-leb N end l, s .past, hop-at-end l, o .above end (omega arith) l)
+            let past-zero = ne-eqb end 0 (λ z. omega (arith, o .some)) in
+            rw (past-zero, lt-ltb end N l, lt-leb N end l, s .past, hop-at-end l, o .above end (omega arith) l)
