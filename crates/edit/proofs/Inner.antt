@@ -14,10 +14,15 @@ use Rattle.cidr.proofs.Prefix.{Prefix, prefix-parts, longer-later}
 use Rattle.cidr.proofs.Covers.{own-network, covers-holds, covers-of-shared, covers-never-earlier}
 use Rattle.routes.specs.Row.{Row}
 use Rattle.routes.specs.WellFormed.{ascending}
+use Rattle.routes.specs.Change.{announced, withdrawn}
 use Rattle.routes.proofs.Row.{Has, those-has, has-those}
-use Rattle.routes.proofs.WellFormed.{HalfGood, same-rows}
-use Rattle.routes.proofs.Change.{ButFor, Order, order, those-ascending}
+use Rattle.routes.proofs.WellFormed.{HalfGood, Good, same-rows}
+use Rattle.routes.proofs.Change.{ButFor, Order, order, those-ascending, announced-but-for, announced-ascending, withdrawn-but-for}
 use Rattle.edit.specs.Inside.Own.{inner}
+
+-- what a half's rows must be, a list's are
+pub good-half : {rows : List Row} → Good rows → HalfGood rows
+good-half g = record { prefixed = g .prefixed; ascends = g .ascends }
 
 -- a listed row inside the prefix
 pub record Inner (k : ℕ) (rows : List Row) (r : Row) : Type 0 where
@@ -59,6 +64,15 @@ inner-same k rows after b asc asc′ =
   where
     moved : (xs ys : List Row) → ((r : Row) → Has r xs → (r .key ≡ k → ⊥) → Has r ys) → (r : Row) → Inner k xs r → Inner k ys r
     moved xs ys go r i = record { listed = go r (i .listed) (λ e. i .other (sym e)); held = i .held; other = i .other }
+
+module _ (k : ℕ) (rows : List Row) (asc : ascending rows ≡ true) where
+  pub announced-inner : (h : ℕ) → inner k rows ≡ inner k (announced k h rows)
+  announced-inner h = inner-same k rows (announced k h rows) (announced-but-for k h rows) asc (announced-ascending k h rows asc)
+
+  pub withdrawn-inner : inner k rows ≡ inner k (withdrawn k rows)
+  unfolding withdrawn
+  withdrawn-inner =
+      inner-same k rows (withdrawn k rows) (withdrawn-but-for k rows) asc (those-ascending (λ r. not (eqb k (r .key))) rows asc)
 
 module _ (k : ℕ) (p : Prefix k) (rows : List Row) (g : HalfGood rows) (r : Row) where
   -- a row inside comes later, and is longer
