@@ -3,12 +3,13 @@
 -- Assumes nothing.
 use mathlib.Core.Path.{_≡_, refl, sym, ap, _∙_}
 use mathlib.Core.List.{List, [], _∷_, _++_, append-assoc}
-use Prim.Native.Nat.{ℕ, zero, suc, _+_, _-_, _≤_, _<_}
+use Prim.Native.Nat.{ℕ, zero, suc, _+_, _-_, _≤_, _<_, max}
 use native.Mathlib.Numerals.{add-one}
 use native.Mathlib.Omega.{arith}
 use lib.ListN.{length, getD, take, drop, set, replicate, length-take, length-drop, length-append, length-replicate, take-append-drop, List·getD-append}
-use lib.Seq.{length-take-le, take-suc, drop-cons, set-at, getD-take, getD-drop, getD-append-add}
-use Rattle.ground.specs.Column.{cleared, movedUp, movedDown}
+use lib.Seq.{length-take-le, take-at, drop-append-add, drop-drop, take-suc, drop-cons, set-at, getD-take, getD-drop, getD-append-add}
+use Rattle.ground.specs.Slots.{rewritten}
+use Rattle.ground.specs.Column.{cleared, movedUp, movedDown, shifted}
 
 module _ (xs : List ℕ) (by : ℕ) where
   -- up: a step more of the block, from its end
@@ -161,3 +162,42 @@ module _ {xs : List ℕ} {count from by i : ℕ} {cur : List ℕ} (c : Sinking x
         room = c .room;
         is = rw (c .is, add-one) (down-step xs by from i (c .below) (c .from-on) lt (down-reads xs by from i (c .below) (c .from-on) lt));
       }
+
+-- what stands in front covers what is dropped
+drop-over : (ys xs : List ℕ) (m n : ℕ) → m ≡ length ys + n → drop m (ys ++ drop (length ys) xs) ≡ drop m xs
+drop-over ys xs m n e = rw e (drop-append-add ys (drop (length ys) xs) n ∙ drop-drop n (length ys) xs)
+
+-- A move up, and a move down with what it frees cleared, are a shift.
+module _ (xs : List ℕ) (count from to : ℕ) (l : from ≤ count) (room : count ≤ length xs) (fits : to + (count - from) ≤ length xs) where
+  abbrev kept : List ℕ
+  kept = take to xs ++ take (count - from) (drop from xs)
+
+  kept-long : length kept ≡ to + (count - from)
+  kept-long =
+      let front : length (take to xs) ≡ to = length-take-le to xs (omega arith) in
+      let block : length (take (count - from) (drop from xs)) ≡ count - from
+      = length-take-le (count - from) (drop from xs) (simp length-drop (omega arith)) in
+      simp length-append (rw (front, block))
+
+  pub shifted-up : from ≤ to → movedUp count from (to - from) xs ≡ shifted count from to xs
+  unfolding movedUp shifted rewritten
+  shifted-up m =
+      let there : from + (to - from) ≡ to = omega arith in
+      let none : count - length kept ≡ 0 = omega (arith, kept-long) in
+      let end : max (length kept) count ≡ count + (to - from) = omega (arith, kept-long) in
+      rw (there, none, end, append-assoc)
+
+  pub shifted-down : to < from → cleared (count - (from - to)) count (movedDown count from (from - to) xs) ≡ shifted count from to xs
+  unfolding cleared shifted rewritten movedDown
+  shifted-down m =
+      let end : count - (from - to) ≡ length kept = omega (arith, kept-long) in
+      let past : max (length kept) count ≡ count = omega (arith, kept-long) in
+      let behind : drop count (kept ++ drop (length kept) xs) ≡ drop count xs
+      = drop-over kept xs count (count - length kept) (omega (arith, kept-long)) in
+      rw (moved, end, take-at kept (drop (length kept) xs) (length kept) refl, behind, past)
+    where
+      moved : movedDown count from (from - to) xs ≡ kept ++ drop (length kept) xs
+      moved =
+          let there : from - (from - to) ≡ to = omega arith in
+          let end : count - (from - to) ≡ length kept = omega (arith, kept-long) in
+          rw (there, end) (sym (append-assoc (take to xs) (take (count - from) (drop from xs)) (drop (length kept) xs)))
