@@ -4,7 +4,7 @@
 use mathlib.Core.Path.{_≡_, sym, ap, _∙_, subst}
 use mathlib.Core.Logic.{⊎-elim}
 use mathlib.Core.Bool.{true, false, _&&_}
-use Prim.Native.Nat.{ℕ, _+_, _-_, _*_, _/_, _%_, _^_, _≤_, _<_}
+use Prim.Native.Nat.{ℕ, _+_, _-_, _*_, _/_, _%_, _^_, _≤_, _<_, zero-le}
 use native.Mathlib.Nat.{mod-lt, mod-le, mod-add-mod, mod-eq-of-lt, zero-add, add-sub-of-le, add-sub-cancel, lt-of-not-le}
 use native.Mathlib.Nat.{le-of-lt, mul-le-mul-right, suc-mul}
 use native.Mathlib.Omega.{arith}
@@ -147,3 +147,8 @@ pub ends-earlier : (k k′ a : ℕ) → k < k′ → holds k a ≡ true → hold
 ends-earlier k k′ a lt h h′ =
     let ends = host-bits-end (lengthOf k) (lengthOf k′) a (le-of-lt (longer-later k k′ a lt h h′)) in
     omega (arith, holds-is k a h, holds-is k′ a h′, host-bits-le (lengthOf k) a, host-bits-le (lengthOf k′) a)
+
+-- a prefix ends with the last address, or earlier
+pub end-within : (key : ℕ) → Prefix key → endOf key ≤ addresses
+unfolding hostBits size
+end-within key p = omega (arith, host-bits-end 0 (lengthOf key) (network key) zero-le, p .aligned, p .within)

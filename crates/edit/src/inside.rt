@@ -1,0 +1,31 @@
+// The rows inside an edited prefix: the runs that they make there, and how many addresses they hold.
+ghost use mathlib.Core.Path.{_≡_};
+ghost use Prim.Native.Nat.{_-_, _≤_, _<_};
+ghost use Rattle.sweep.specs.Sweep.{allRows, answer, Sorted, From};
+ghost use Rattle.edit.specs.Inside.Middle.{Measured};
+
+// The runs inside a prefix: how many there are, and the hops of the first and of the last.
+pub struct Middle {
+    pub runs: usize,
+    pub first: u16,
+    pub last: u16,
+}
+
+// The runs of the rows from a start up to a limit, measured before anything is written.
+pub fn measure(keys: &[u64], hops: &[u16], base: u16, start: u64, limit: u64) -> Middle
+    requires { ⌜ Sorted (now keys) (now hops) × From (now keys) start × (start < limit) × (limit ≤ 4294967296) ⌝ }
+    ensures { λ r. ⌜ Measured (answer base (allRows (now (keys .entry)) (now (hops .entry)))) start limit r ⌝ }
+{
+    let mut ends = [0u64; 33];
+    let mut open_hops = [0u16; 33];
+    let mut s = sweep::begin(keys, hops, start, &mut ends, &mut open_hops);
+    let first = sweep::top_hop(&open_hops, s.depth, base);
+    let mut last = first;
+    let mut runs = 0;
+    while s.at < limit {
+        last = sweep::top_hop(&open_hops, s.depth, base);
+        runs += 1;
+        s = sweep::next_turn(keys, hops, base, limit, s, &mut ends, &mut open_hops);
+    }
+    Middle { runs, first, last }
+}
