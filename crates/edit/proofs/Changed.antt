@@ -22,11 +22,11 @@ use Rattle.routes.specs.Plain.{plain}
 use Rattle.routes.specs.Change.{announced, withdrawn, changedBetween}
 use Rattle.routes.specs.Change.Laws.{changed-is, changed-between-is, changed-same}
 use Rattle.routes.proofs.Row.{Has, every-has, has-every}
-use Rattle.routes.proofs.WellFormed.{HalfGood, Good}
+use Rattle.routes.proofs.WellFormed.{HalfGood, Good, good-half}
 use Rattle.routes.proofs.Plain.{NoMatch, plain-cases}
 use Rattle.routes.proofs.Change.{ButFor, announced-but-for, announced-good, withdrawn-but-for, withdrawn-good, plain-outside, plain-longer}
 use Rattle.edit.specs.Inside.Own.{enclosingHop, inner, outerSize}
-use Rattle.edit.proofs.Inner.{good-half, inner-has, inner-half, inner-same, inner-later, inner-longer}
+use Rattle.edit.proofs.Inner.{inner-has, inner-half, inner-same, inner-later, inner-longer}
 use Rattle.edit.proofs.Own.{own-answer, announced-own}
 use Rattle.edit.proofs.Outer.{free, Ahead, free-counted}
 

@@ -16,13 +16,9 @@ use Rattle.routes.specs.Row.{Row}
 use Rattle.routes.specs.WellFormed.{ascending}
 use Rattle.routes.specs.Change.{announced, withdrawn}
 use Rattle.routes.proofs.Row.{Has, those-has, has-those}
-use Rattle.routes.proofs.WellFormed.{HalfGood, Good, same-rows}
+use Rattle.routes.proofs.WellFormed.{HalfGood, same-rows}
 use Rattle.routes.proofs.Change.{ButFor, Order, order, those-ascending, announced-but-for, announced-ascending, withdrawn-but-for}
 use Rattle.edit.specs.Inside.Own.{inner}
-
--- what a half's rows must be, a list's are
-pub good-half : {rows : List Row} → Good rows → HalfGood rows
-good-half g = record { prefixed = g .prefixed; ascends = g .ascends }
 
 -- a listed row inside the prefix
 pub record Inner (k : ℕ) (rows : List Row) (r : Row) : Type 0 where

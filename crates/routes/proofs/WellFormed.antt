@@ -115,6 +115,10 @@ pub record Good (rows : List Row) : Type 0 where
   pub given : (r : Row) → Has r rows → r .hop ≡ 0 → ⊥
   pub ascends : ascending rows ≡ true
 
+-- what a half's rows must be, a list's are
+pub good-half : {rows : List Row} → Good rows → HalfGood rows
+good-half g = record { prefixed = g .prefixed; ascends = g .ascends }
+
 module _ (rows : List Row) (e : goodRows rows ≡ true) where
   rest : halfRows rows ≡ true
   unfolding goodRows
