@@ -39,7 +39,7 @@ module _ (k : ℕ) (pre : isPrefix k ≡ true) where
           ∙ holds-later (r .key) k l (prefix-parts (r .key) (g .prefixed r m)) (prefix-parts k pre) a held)
 
   -- the hop of the longest row around is a plain answer: that of those rows, at the prefix's network
-  enclosing-plain : (rows : List Row) → enclosingHop k rows ≡ plain (enclosing k rows) (network k)
+  pub enclosing-plain : (rows : List Row) → enclosingHop k rows ≡ plain (enclosing k rows) (network k)
   unfolding plain matching enclosingHop enclosing
   enclosing-plain rows = ap (λ rs. hopOf (longest rs))
       (sym (those-all (λ r. holds (r .key) (network k)) (enclosing k rows)

@@ -6,12 +6,21 @@ use mathlib.Core.Logic.{_⊎_, inl, inr, ⊎-elim}
 use mathlib.Core.Bool.{Bool, true, false, _&&_}
 use mathlib.Core.List.{List, [], _∷_, _++_, append-nil}
 use mathlib.Core.List.{List·Memᴰ, List·Memᴰ·head, List·Memᴰ·tail, List·Memᴰ·cases-cons, List·Memᴰ·not-nil}
+use Prim.Native.Nat.{ℕ, zero, suc, _<_}
+use native.Mathlib.Omega.{arith}
+use lib.ListN.{length, getD}
 use Rattle.ground.proofs.Truth.{and-left, and-right, and-both, never-both}
 use Rattle.routes.specs.Row.{Row, every, keepRow, those}
 
 -- the row is listed
 abbrev pub Has : Row → List Row → Type 0
 Has r rows = List·Memᴰ r rows
+
+-- the row at a place is listed
+pub has-at : (rows : List Row) (i : ℕ) (d : Row) → i < length rows → Has (getD rows i d) rows
+has-at [] i d l = absurd (omega arith)
+has-at (r ∷ rs) zero d l = List·Memᴰ·head refl
+has-at (r ∷ rs) (suc i) d l = List·Memᴰ·tail (has-at rs i d (omega arith))
 
 module _ (p : Row → Bool) where
   pub every-has : (rows : List Row) → every p rows ≡ true → (r : Row) → Has r rows → p r ≡ true
