@@ -3,6 +3,7 @@ ghost use mathlib.Core.Path.{_≡_};
 ghost use Prim.Native.Nat.{_-_, _≤_, _<_};
 ghost use Rattle.sweep.specs.Sweep.{allRows, answer, Sorted, From};
 ghost use Rattle.edit.specs.Inside.Middle.{Measured};
+ghost use Rattle.edit.specs.Inside.Own.{outerSize};
 
 // The runs inside a prefix: how many there are, and the hops of the first and of the last.
 pub struct Middle {
@@ -28,4 +29,25 @@ pub fn measure(keys: &[u64], hops: &[u16], base: u16, start: u64, limit: u64) ->
         s = sweep::next_turn(keys, hops, base, limit, s, &mut ends, &mut open_hops);
     }
     Middle { runs, first, last }
+}
+
+// How many addresses the outermost of some rows in key order hold, from an address on: a row that begins before it lies in an earlier one.
+pub fn outer_size(keys: &[u64], hops: &[u16], from: u64) -> u64
+    requires { ⌜ Sorted (now keys) (now hops) × (from ≤ 4294967296) ⌝ }
+    ensures { λ r. ⌜ r ≡ outerSize from (allRows (now (keys .entry)) (now (hops .entry))) ⌝ }
+{
+    let mut end = from;
+    let mut sum: u64 = 0;
+    let mut i = 0;
+    while i < keys.len() {
+        let key = keys[i];
+        let net = cidr::network(key);
+        if end <= net {
+            let next = cidr::end_of(key);
+            sum += next - net;
+            end = next;
+        }
+        i += 1;
+    }
+    sum
 }
