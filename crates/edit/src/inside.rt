@@ -1,6 +1,9 @@
-// The rows inside an edited prefix: the runs that they make there, and how many addresses they hold.
+// The rows inside an edited prefix: where they stand, the runs that they make there, and how many addresses they hold.
+ghost use mathlib.Core.Bool.{true};
 ghost use mathlib.Core.Path.{_≡_};
-ghost use Prim.Native.Nat.{_-_, _≤_, _<_};
+ghost use Prim.Native.Nat.{_+_, _-_, _*_, _≤_, _<_};
+ghost use Rattle.ground.specs.Column.{ascends, lower};
+ghost use Rattle.cidr.specs.Prefix.{isPrefix, endOf};
 ghost use Rattle.sweep.specs.Sweep.{allRows, answer, Sorted, From};
 ghost use Rattle.edit.specs.Inside.Middle.{Measured};
 ghost use Rattle.edit.specs.Inside.Own.{outerSize};
@@ -50,4 +53,21 @@ pub fn outer_size(keys: &[u64], hops: &[u16], from: u64) -> u64
         i += 1;
     }
     sum
+}
+
+// The place of the first row inside a prefix: how many keys are at most the prefix's.
+pub fn inner_from(keys: &[u64], key: u64) -> usize
+    requires { ⌜ (isPrefix key ≡ true) × (ascends (now keys) ≡ true) ⌝ }
+    ensures { λ r. ⌜ r ≡ lower (key + 1) (now (keys .entry)) ⌝ }
+{
+    halving::column64::lower(keys, key + 1)
+}
+
+// One past the last row inside a prefix: how many keys have a network before the prefix's end.
+pub fn inner_upto(keys: &[u64], key: u64) -> usize
+    requires { ⌜ (isPrefix key ≡ true) × (ascends (now keys) ≡ true) ⌝ }
+    ensures { λ r. ⌜ r ≡ lower (endOf key * 64) (now (keys .entry)) ⌝ }
+{
+    let end = cidr::end_of(key);
+    halving::column64::lower(keys, end * 64)
 }
