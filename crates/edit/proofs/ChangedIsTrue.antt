@@ -44,8 +44,8 @@ module _ {k : ℕ} {after : List Row} {p : Pair} {o : Edited} (c : Accepted k af
   kept : (a : ℕ) → plain after a ≡ plain (listOf p) a → plainLookup (edited o .list) a ≡ plainLookup (p .list) a
   kept a e = found-after a ∙ ap (lookedUp done) e ∙ sym (found-before a)
 
-  pub true-change : TrueChange k p o
-  true-change = record {
+  pub changed-is-true : TrueChange k p o
+  changed-is-true = record {
     before-done = λ a. ap (λ (x : LookupOutcome). x .number) (found-before a);
     after-done = λ a. ap (λ (x : LookupOutcome). x .number) (found-after a);
     counts =
@@ -59,7 +59,7 @@ module _ {k : ℕ} {after : List Row} {p : Pair} {o : Edited} (c : Accepted k af
 
 module _ (p : Pair) (o : Edited) where
   pub announce-changed-is-true : (net len hop : ℕ) → o ≡ announce net len hop p → o .number ≡ done → TrueChange (keyOf net len) p o
-  announce-changed-is-true net len hop e d = true-change (announce-accepted net len hop p o e d)
+  announce-changed-is-true net len hop e d = changed-is-true (announce-accepted net len hop p o e d)
 
   pub withdraw-changed-is-true : (net len : ℕ) → o ≡ withdraw net len p → o .number ≡ done → TrueChange (keyOf net len) p o
-  withdraw-changed-is-true net len e d = true-change (withdraw-accepted net len p o e d)
+  withdraw-changed-is-true net len e d = changed-is-true (withdraw-accepted net len p o e d)

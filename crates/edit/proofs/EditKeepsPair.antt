@@ -18,10 +18,11 @@ use Rattle.routes.proofs.WellFormed.{parts-good}
 use Rattle.routes.proofs.ListTest.{half-room}
 use Rattle.routes.proofs.Columns.{rows-of-columns}
 use Rattle.routes.specs.Plain.{plain}
-use Rattle.runs.specs.Table.{runsLent, runStarts, runHops, startsOf, runHopsOf}
+use Rattle.runs.specs.Table.{runsLent, runStarts, runHops}
 use Rattle.runs.specs.Build.{runRoom}
 use Rattle.runs.specs.Pair.{Pair, pair, listOf, itsRuns, pairCheck}
 use Rattle.runs.proofs.Agreed.{agreed-half, agreed-room}
+use Rattle.runs.proofs.Table.{table-of}
 use Rattle.runs.proofs.TableOutcomes.{pair-agreed}
 use Rattle.edit.specs.Edit.{Edited, announce, withdraw}
 use Rattle.edit.proofs.Rewritten.{length-rewritten, take-rewritten}
@@ -32,8 +33,8 @@ abbrev pub edited : Edited → Pair
 edited o = pair (listLent (o .count) (o .keys) (o .hops)) (runsLent (o .runs) (o .starts) (o .rhops))
 
 pub same-count : (rows : List Row) → length (runHops rows) ≡ length (runStarts rows)
-unfolding runHops runHopsOf runStarts
-same-count rows = length-map (startsOf (plain rows)) (plain rows)
+unfolding runHops runStarts
+same-count rows = table-of (plain rows) .paired
 
 module _ {k : ℕ} {after : List Row} {p : Pair} {o : Edited} (a : Accepted k after p o) where
   pub left-rows : listOf (edited o) ≡ after
@@ -87,12 +88,12 @@ module _ {k : ℕ} {after : List Row} {p : Pair} {o : Edited} (a : Accepted k af
   unfolding itsRuns
   left-its = rw (left-rows, left-starts, left-hops) (and-both (same-self (runStarts after)) (same-self (runHops after)))
 
-  pub left-agrees : pairCheck (edited o) ≡ done
-  left-agrees = sym (pair-agreed (edited o) left-well (rw (left-run-room, left-runs) (a .runs-fit)) left-its)
+  pub edit-keeps-pair : pairCheck (edited o) ≡ done
+  edit-keeps-pair = sym (pair-agreed (edited o) left-well (rw (left-run-room, left-runs) (a .runs-fit)) left-its)
 
 module _ (p : Pair) (o : Edited) where
   pub announce-keeps-pair : (net len hop : ℕ) → o ≡ announce net len hop p → o .number ≡ done → pairCheck (edited o) ≡ done
-  announce-keeps-pair net len hop e d = left-agrees (announce-accepted net len hop p o e d)
+  announce-keeps-pair net len hop e d = edit-keeps-pair (announce-accepted net len hop p o e d)
 
   pub withdraw-keeps-pair : (net len : ℕ) → o ≡ withdraw net len p → o .number ≡ done → pairCheck (edited o) ≡ done
-  withdraw-keeps-pair net len e d = left-agrees (withdraw-accepted net len p o e d)
+  withdraw-keeps-pair net len e d = edit-keeps-pair (withdraw-accepted net len p o e d)

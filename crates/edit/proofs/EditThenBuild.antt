@@ -37,8 +37,8 @@ module _ {k : ℕ} {after : List Row} {p : Pair} {o : Edited} (a : Accepted k af
       build-well false (edited o .list) s (left-well a)
       ∙ rw (left-rows a, le-ltb (runRoom (s .starts) (s .hops)) (length (runStarts after)) (rw (left-runs a) at room))
 
-  pub left-rebuilt : (b : BuildOutcome) → b ≡ build (edited o .list) s → Rebuilt o b
-  left-rebuilt b e = record {
+  pub edit-then-build : (b : BuildOutcome) → b ≡ build (edited o .list) s → Rebuilt o b
+  edit-then-build b e = record {
     accepted = ap (λ (x : BuildOutcome). x .number) is;
     runs = count ∙ sym (left-runs a);
     starts =
@@ -60,8 +60,8 @@ module _ {k : ℕ} {after : List Row} {p : Pair} {o : Edited} (a : Accepted k af
 module _ (p : Pair) (o : Edited) (s : SlotsLent) (b : BuildOutcome) where
   pub announce-then-build : (net len hop : ℕ) → o ≡ announce net len hop p → o .number ≡ done
       → o .runs ≤ runRoom (s .starts) (s .hops) → b ≡ build (edited o .list) s → Rebuilt o b
-  announce-then-build net len hop e d room = left-rebuilt (announce-accepted net len hop p o e d) s room b
+  announce-then-build net len hop e d room = edit-then-build (announce-accepted net len hop p o e d) s room b
 
   pub withdraw-then-build : (net len : ℕ) → o ≡ withdraw net len p → o .number ≡ done
       → o .runs ≤ runRoom (s .starts) (s .hops) → b ≡ build (edited o .list) s → Rebuilt o b
-  withdraw-then-build net len e d room = left-rebuilt (withdraw-accepted net len p o e d) s room b
+  withdraw-then-build net len e d room = edit-then-build (withdraw-accepted net len p o e d) s room b
