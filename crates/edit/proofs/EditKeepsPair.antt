@@ -11,7 +11,7 @@ use borrow.Author.Tests.{le-leb}
 use Rattle.ground.specs.Numbers.{done}
 use Rattle.ground.proofs.Truth.{and-both}
 use Rattle.ground.specs.Slots.{rewritten}
-use Rattle.ground.proofs.Slots.{same-self}
+use Rattle.ground.proofs.Slots.{length-rewritten, take-rewritten, same-self}
 use Rattle.routes.specs.Row.{Row, listLent, rowsOf, listRoom, keysOf, hopsOf}
 use Rattle.routes.specs.WellFormed.{wellFormed}
 use Rattle.routes.proofs.WellFormed.{parts-good}
@@ -25,7 +25,6 @@ use Rattle.runs.proofs.Agreed.{agreed-half, agreed-room}
 use Rattle.runs.proofs.Table.{table-of}
 use Rattle.runs.proofs.TableOutcomes.{pair-agreed}
 use Rattle.edit.specs.Edit.{Edited, announce, withdraw}
-use Rattle.edit.proofs.Rewritten.{length-rewritten, take-rewritten}
 use Rattle.edit.proofs.Accepted.{Accepted, announce-accepted, withdraw-accepted}
 
 -- the pair that an edit leaves

@@ -12,6 +12,7 @@ use borrow.Author.Tests.{le-ltb, ne-eqb}
 use Rattle.ground.specs.Numbers.{firstFault, done}
 use Rattle.ground.specs.Slots.{rewritten}
 use Rattle.ground.proofs.Numbers.{outcome-done}
+use Rattle.ground.proofs.Slots.{rewritten-same}
 use Rattle.cidr.specs.Prefix.{keyOf}
 use Rattle.routes.specs.Row.{row, listRoom, keysOf, hopsOf}
 use Rattle.routes.specs.Plain.{plain}
@@ -28,7 +29,6 @@ use Rattle.runs.proofs.Agreed.{agreed-half, agreed-room, agreed-keys, agreed-st
 use Rattle.runs.proofs.TableOutcomes.{pair-agrees}
 use Rattle.runs.proofs.WholeList.{in-keys, in-hops}
 use Rattle.edit.specs.Edit.{Edited, editDone, badPrefix, exceeds, announce, announceChecks, afterAnnounce}
-use Rattle.edit.proofs.Rewritten.{rewritten-same}
 use Rattle.edit.proofs.Accepted.{agreed-good}
 use Rattle.edit.proofs.EditKeepsPair.{same-count}
 
