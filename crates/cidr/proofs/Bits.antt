@@ -20,6 +20,11 @@ shifted-back x b h = mod-eq-of-lt (lt-of-le-of-lt (div-mul-le-self x (2 ^ b)) h)
 pub cleared-is : (x b : ℕ) → x / 2 ^ b * 2 ^ b ≡ x - x % 2 ^ b
 cleared-is x b = omega (arith, div-add-mod' x (2 ^ b))
 
+-- an address shifted there and back has lost its host bits
+pub shifted-host-bits : (a len : ℕ) → a < 2 ^ 64 → (a / 2 ^ (32 - len) * 2 ^ (32 - len)) % 2 ^ 64 ≡ a - hostBits len a
+unfolding hostBits size
+shifted-host-bits a len h = shifted-back a (32 - len) h ∙ cleared-is a (32 - len)
+
 -- the cleared number is the number itself where the low bits are 0
 pub cleared-same : (x b : ℕ) → eqb (x / 2 ^ b * 2 ^ b) x ≡ eqb (x % 2 ^ b) 0
 cleared-same x b = ⊎-elim

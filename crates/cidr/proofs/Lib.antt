@@ -1,3 +1,4 @@
 pub mod Prefix
+pub mod Covers
 pub mod Turn
-mod Bits
+pub mod Bits

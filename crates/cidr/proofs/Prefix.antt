@@ -1,10 +1,10 @@
 -- What a prefix is and which addresses it holds, as facts about numbers: a prefix holds the addresses from its network on, as many as its
 -- size, and of all prefixes of one length at most one holds an address.
 -- Assumes nothing.
-use mathlib.Core.Path.{_≡_, sym, ap, _∙_, subst}
+use mathlib.Core.Path.{_≡_, refl, sym, ap, _∙_, subst}
 use mathlib.Core.Logic.{⊎-elim}
 use mathlib.Core.Bool.{true, false, _&&_}
-use Prim.Native.Nat.{ℕ, _+_, _-_, _*_, _/_, _%_, _^_, _≤_, _<_}
+use Prim.Native.Nat.{ℕ, _+_, _-_, _*_, _/_, _%_, _^_, _≤_, _<_, zero-le}
 use native.Mathlib.Nat.{mod-lt, mod-le, mod-add-mod, mod-eq-of-lt, zero-add, add-sub-of-le, add-sub-cancel, lt-of-not-le}
 use native.Mathlib.Nat.{le-of-lt, mul-le-mul-right, suc-mul}
 use native.Mathlib.Omega.{arith}
@@ -64,13 +64,20 @@ pub holds-is : (key a : ℕ) → holds key a ≡ true → a - hostBits (lengthOf
 unfolding holds
 holds-is key a e = eqb-true _ _ e
 
--- of all prefixes of one length at most one holds an address
+-- the key of the prefix of a length that holds an address: it does, and of all prefixes of that length no other one does
+abbrev pub keyAround : ℕ → ℕ → ℕ
+keyAround a len = keyOf (a - hostBits len a) len
+
+pub key-around-holds : (a len : ℕ) → len < 64 → holds (keyAround a len) a ≡ true
+unfolding holds
+key-around-holds a len h =
+    rw (length-key (a - hostBits len a) len h, network-key (a - hostBits len a) len h) (eq-eqb (a - hostBits len a) _ refl)
+
+pub only-key-around : (key a : ℕ) → holds key a ≡ true → key ≡ keyAround a (lengthOf key)
+only-key-around key a e = sym (key-split key) ∙ ap (λ n. keyOf n (lengthOf key)) (sym (holds-is key a e))
+
 pub same-key : (k k′ a : ℕ) → lengthOf k ≡ lengthOf k′ → holds k a ≡ true → holds k′ a ≡ true → k ≡ k′
-same-key k k′ a e h h′ =
-    sym (key-split k)
-    ∙ (ap (λ n. keyOf n (lengthOf k)) (sym (holds-is k a h) ∙ (ap (λ l. a - hostBits l a) e ∙ holds-is k′ a h′))
-    ∙ (ap (λ l. keyOf (network k′) l) e
-    ∙ key-split k′))
+same-key k k′ a e h h′ = only-key-around k a h ∙ ap (keyAround a) e ∙ sym (only-key-around k′ a h′)
 
 -- what a prefix holds lies between its network and one past its end
 pub holds-from : (key a : ℕ) → holds key a ≡ true → network key ≤ a
@@ -147,3 +154,8 @@ pub ends-earlier : (k k′ a : ℕ) → k < k′ → holds k a ≡ true → hold
 ends-earlier k k′ a lt h h′ =
     let ends = host-bits-end (lengthOf k) (lengthOf k′) a (le-of-lt (longer-later k k′ a lt h h′)) in
     omega (arith, holds-is k a h, holds-is k′ a h′, host-bits-le (lengthOf k) a, host-bits-le (lengthOf k′) a)
+
+-- a prefix ends with the last address, or earlier
+pub end-within : (key : ℕ) → Prefix key → endOf key ≤ addresses
+unfolding hostBits size
+end-within key p = omega (arith, host-bits-end 0 (lengthOf key) (network key) zero-le, p .aligned, p .within)

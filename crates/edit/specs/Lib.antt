@@ -1,1 +1,2 @@
 pub mod Edit
+pub mod Inside

@@ -6,3 +6,4 @@ pub mod Column
 pub mod Slots
 pub mod Numbers
 pub mod Lower
+pub mod Block

@@ -1,18 +1,18 @@
 -- The slots of a lent slice after a call: writing at the front keeps the length, what was written stands at the front, a longer writing
--- covers a shorter one, and one more slot is one more number. Then what `same` says of two lists.
+-- covers a shorter one, and one more slot is one more number. Then the same of what an edit rewrites, and what `same` says of two lists.
 -- Assumes nothing.
 use mathlib.Core.Path.{_≡_, refl, sym, ap, _∙_}
 use mathlib.Core.Bool.{true}
 use mathlib.Core.List.{List, [], _∷_, _++_, append-assoc}
-use Prim.Native.Nat.{ℕ, _+_, _-_, _≤_, _<_}
+use Prim.Native.Nat.{ℕ, _+_, _-_, _≤_, _<_, max}
 use native.Mathlib.Numerals.{add-one}
 use native.Mathlib.Omega.{arith}
-use lib.ListN.{length, getD, take, drop, set, length-take, length-append, length-drop}
+use lib.ListN.{length, getD, take, drop, set, length-take, length-append, length-drop, length-replicate, take-append-drop}
 use lib.Seq.{take-at, getD-take, drop-append-add, drop-drop, drop-cons, set-at}
 use lib.Dec.{eqb}
 use borrow.Author.Tests.{eqb-true, eq-eqb}
 use Rattle.ground.proofs.Truth.{and-left, and-right, and-both, never-both}
-use Rattle.ground.specs.Slots.{written, same}
+use Rattle.ground.specs.Slots.{written, rewritten, same}
 
 pub length-written : (new old : List ℕ) → length new ≤ length old → length (written new old) ≡ length old
 unfolding written
@@ -33,6 +33,23 @@ pub written-more : (new old : List ℕ) (v : ℕ) → length new < length old �
 unfolding written
 written-more new old v l =
     rw (drop-cons old (length new) 0 l, length-append, add-one, append-assoc) (set-at new _ _ v (length new) refl)
+
+-- What an edit rewrites keeps the length too and stands at the front, and rewriting what the old count reached leaves every slot as it was.
+module _ (new : List ℕ) (count : ℕ) (old : List ℕ) where
+  pub length-rewritten : length new ≤ length old → count ≤ length old → length (rewritten new count old) ≡ length old
+  unfolding rewritten
+  length-rewritten l m = simp (length-append, length-replicate, length-drop) (omega arith)
+
+  pub take-rewritten : (n : ℕ) → n ≡ length new → take n (rewritten new count old) ≡ new
+  unfolding rewritten
+  take-rewritten n e = take-at new _ n (sym e)
+
+  pub rewritten-same : take count old ≡ new → count ≡ length new → rewritten new count old ≡ old
+  unfolding rewritten
+  rewritten-same held e =
+      let none : length new - length new ≡ 0 = omega arith in
+      let top : max (length new) (length new) ≡ length new = omega arith in
+      rw (e, none, top) (rw (held, e) at (take-append-drop count old))
 
 -- two lists are the same exactly if they are one list
 pub same-is : (xs ys : List ℕ) → same xs ys ≡ true → xs ≡ ys

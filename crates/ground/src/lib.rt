@@ -2,6 +2,7 @@
 // slice holds after a call, and the moves of one column. It is for this library's crates and not for callers.
 // The moves of a column stand once for each width.
 pub mod column16;
+pub mod column32;
 pub mod column64;
 
 // Rule 5.1: the numbers that a call returns; `specs/Numbers` has them as definitions.

@@ -144,7 +144,7 @@ module _ (k h : ℕ) where
 
 -- a part of a well-formed list is well-formed
 module _ (p : Row → Bool) where
-  those-ascending : (rows : List Row) → ascending rows ≡ true → ascending (those p rows) ≡ true
+  pub those-ascending : (rows : List Row) → ascending rows ≡ true → ascending (those p rows) ≡ true
   unfolding those ascending ascends
   those-ascending [] e = refl
   those-ascending (t ∷ ts) e = go (p t) (those-ascending ts (ascending-tail t ts e))

@@ -29,7 +29,7 @@ lastHop h a [] = h
 lastHop h a (r ∷ rs) = lastHop (keptHop h a r) a rs
 
 module _ (a : ℕ) where
-  last-none : (h : ℕ) (rows : List Row) → NoMatch rows a → lastHop h a rows ≡ h
+  pub last-none : (h : ℕ) (rows : List Row) → NoMatch rows a → lastHop h a rows ≡ h
   unfolding lastHop
   last-none h [] none-in = refl
   last-none h (r ∷ rs) none-in =
@@ -51,7 +51,7 @@ module _ (a : ℕ) where
   longest-later : (t : Row) (ts : List Row) (r : Row) → Has r ts → Longest (t ∷ ts) a r → Longest ts a r
   longest-later t ts r m l = record { listed = m; matches = l .matches; longest = λ s n. l .longest s (List·Memᴰ·tail n) }
 
-  last-longest : (h : ℕ) (rows : List Row) → ascending rows ≡ true → (r : Row) → Longest rows a r → lastHop h a rows ≡ r .hop
+  pub last-longest : (h : ℕ) (rows : List Row) → ascending rows ≡ true → (r : Row) → Longest rows a r → lastHop h a rows ≡ r .hop
   unfolding lastHop
   last-longest h [] asc r l = absurd (List·Memᴰ·not-nil (l .listed))
   last-longest h (t ∷ ts) asc r l = ⊎-elim

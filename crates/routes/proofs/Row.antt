@@ -3,15 +3,24 @@
 -- Assumes nothing.
 use mathlib.Core.Path.{_≡_, refl, sym, ap, _∙_}
 use mathlib.Core.Logic.{_⊎_, inl, inr, ⊎-elim}
-use mathlib.Core.Bool.{Bool, true, false}
+use mathlib.Core.Bool.{Bool, true, false, _&&_}
 use mathlib.Core.List.{List, [], _∷_, _++_, append-nil}
 use mathlib.Core.List.{List·Memᴰ, List·Memᴰ·head, List·Memᴰ·tail, List·Memᴰ·cases-cons, List·Memᴰ·not-nil}
+use Prim.Native.Nat.{ℕ, zero, suc, _<_}
+use native.Mathlib.Omega.{arith}
+use lib.ListN.{length, getD}
 use Rattle.ground.proofs.Truth.{and-left, and-right, and-both, never-both}
 use Rattle.routes.specs.Row.{Row, every, keepRow, those}
 
 -- the row is listed
 abbrev pub Has : Row → List Row → Type 0
 Has r rows = List·Memᴰ r rows
+
+-- the row at a place is listed
+pub has-at : (rows : List Row) (i : ℕ) (d : Row) → i < length rows → Has (getD rows i d) rows
+has-at [] i d l = absurd (omega arith)
+has-at (r ∷ rs) zero d l = List·Memᴰ·head refl
+has-at (r ∷ rs) (suc i) d l = List·Memᴰ·tail (has-at rs i d (omega arith))
 
 module _ (p : Row → Bool) where
   pub every-has : (rows : List Row) → every p rows ≡ true → (r : Row) → Has r rows → p r ≡ true
@@ -67,6 +76,25 @@ module _ (p : Row → Bool) where
   unfolding those
   those-same q [] h = refl
   those-same q (s ∷ ss) h = rw (h s (List·Memᴰ·head refl), those-same q ss (λ r m. h r (List·Memᴰ·tail m)))
+
+  -- where all pass, those are all
+  pub those-all : (rows : List Row) → ((r : Row) → Has r rows → p r ≡ true) → those p rows ≡ rows
+  unfolding those
+  those-all [] h = refl
+  those-all (s ∷ ss) h = rw (h s (List·Memᴰ·head refl), those-all ss (λ r m. h r (List·Memᴰ·tail m)))
+
+  -- those of those that pass another test pass both
+  pub those-those : (q : Row → Bool) (rows : List Row) → those p (those q rows) ≡ those (λ r. p r && q r) rows
+  unfolding those
+  those-those q [] = refl
+  those-those q (s ∷ ss) = go (p s) (q s) refl (those-those q ss)
+    where
+      go : (b c : Bool) → p s ≡ b → those p (those q ss) ≡ those (λ r. p r && q r) ss
+          → those p (keepRow c s (those q ss)) ≡ keepRow (b && c) s (those (λ r. p r && q r) ss)
+      go true true e rec = rw (e, rec)
+      go true false e rec = rec
+      go false true e rec = rw (e, rec)
+      go false false e rec = rec
 
   -- one row more, which passes or doesn't
   pub those-one : (xs : List Row) (r : Row) → p r ≡ true → those p (xs ++ r ∷ []) ≡ those p xs ++ r ∷ []

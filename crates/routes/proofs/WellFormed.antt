@@ -4,7 +4,7 @@ use mathlib.Core.Path.{_≡_, refl, sym, ap, _∙_, subst}
 use mathlib.Core.Logic.{_⊎_, inl, inr, ⊎-elim}
 use mathlib.Core.Bool.{true, not}
 use mathlib.Core.List.{List, [], _∷_, _++_, Memᴰ·append-left, Memᴰ·append-right}
-use mathlib.Core.List.{List·Memᴰ·head, List·Memᴰ·cases-cons, List·Memᴰ·not-nil}
+use mathlib.Core.List.{List·Memᴰ·head, List·Memᴰ·tail, List·Memᴰ·cases-cons, List·Memᴰ·not-nil}
 use Prim.Native.Nat.{_<_}
 use native.Mathlib.Nat.{lt-trans, lt-irrefl}
 use borrow.Author.Tests.{ltb-true, lt-ltb, eqb-false, ne-eqb}
@@ -70,6 +70,28 @@ one-row (t ∷ ts) a r s m n e = go (List·Memᴰ·cases-cons m) (List·Memᴰ·
     go (inr m′) (inl q) rec = absurd (lt-irrefl _ (subst (λ x. x < r .key) (ap (λ x. x .key) (sym q) ∙ sym e) (first-below t ts a r m′)))
     go (inr m′) (inr n′) rec = rec m′ n′ e
 
+-- and two lists that ascend and have the same rows are one
+pub same-rows : (xs ys : List Row) → ascending xs ≡ true → ascending ys ≡ true → ((r : Row) → Has r xs → Has r ys)
+    → ((r : Row) → Has r ys → Has r xs) → xs ≡ ys
+same-rows [] [] a b to from = refl
+same-rows [] (y ∷ ys) a b to from = absurd (List·Memᴰ·not-nil (from y (List·Memᴰ·head refl)))
+same-rows (x ∷ xs) [] a b to from = absurd (List·Memᴰ·not-nil (to x (List·Memᴰ·head refl)))
+same-rows (x ∷ xs) (y ∷ ys) a b to from =
+    ap (_∷ xs) first
+    ∙ ap (y ∷_) (same-rows xs ys (ascending-tail x xs a) (ascending-tail y ys b)
+    (λ r m. later y ys r (subst (λ z. z .key < r .key) first (first-below x xs a r m)) (to r (List·Memᴰ·tail m)))
+    (λ r m. later x xs r (subst (λ z. z .key < r .key) (sym first) (first-below y ys b r m)) (from r (List·Memᴰ·tail m))))
+  where
+    later : (t : Row) (ts : List Row) (r : Row) → t .key < r .key → Has r (t ∷ ts) → Has r ts
+    later t ts r l m = ⊎-elim (λ q. absurd (lt-irrefl _ (subst (λ z. t .key < z .key) q l))) (λ n. n) (List·Memᴰ·cases-cons m)
+
+    first : x ≡ y
+    first = ⊎-elim
+        (λ q. q)
+        (λ m. ⊎-elim sym (λ n. absurd (lt-irrefl _ (lt-trans (first-below x xs a y n) (first-below y ys b x m))))
+        (List·Memᴰ·cases-cons (from y (List·Memᴰ·head refl))))
+        (List·Memᴰ·cases-cons (to x (List·Memᴰ·head refl)))
+
 -- the parts of a half that 11 lets pass
 pub record HalfGood (rows : List Row) : Type 0 where
   pub prefixed : (r : Row) → Has r rows → isPrefix (r .key) ≡ true
@@ -92,6 +114,10 @@ pub record Good (rows : List Row) : Type 0 where
   pub prefixed : (r : Row) → Has r rows → isPrefix (r .key) ≡ true
   pub given : (r : Row) → Has r rows → r .hop ≡ 0 → ⊥
   pub ascends : ascending rows ≡ true
+
+-- what a half's rows must be, a list's are
+pub good-half : {rows : List Row} → Good rows → HalfGood rows
+good-half g = record { prefixed = g .prefixed; ascends = g .ascends }
 
 module _ (rows : List Row) (e : goodRows rows ≡ true) where
   rest : halfRows rows ≡ true

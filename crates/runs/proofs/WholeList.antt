@@ -31,7 +31,7 @@ use Rattle.sweep.proofs.Sorted.{in-order}
 use Rattle.runs.proofs.Table.{runs-at-most}
 
 -- the hop that a walk over the rows keeps is that of the last row that holds the address
-last-is : (a h : ℕ) (rows : List Row) → lastHop h a rows ≡ lastOr h (hopsOf (matching a rows))
+pub last-is : (a h : ℕ) (rows : List Row) → lastHop h a rows ≡ lastOr h (hopsOf (matching a rows))
 unfolding lastHop lastOr matching those
 last-is a h [] = refl
 last-is a h (r ∷ rs) = go (holds (r .key) a) refl (λ h′. last-is a h′ rs)

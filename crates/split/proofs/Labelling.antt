@@ -4,7 +4,7 @@
 -- Assumes nothing.
 use mathlib.Core.Path.{_≡_, refl, sym, ap, _∙_}
 use mathlib.Core.Logic.{⊎-elim}
-use mathlib.Core.List.{List, [], _∷_, map, List·Memᴰ·head, List·Memᴰ·tail}
+use mathlib.Core.List.{List, [], _∷_, map}
 use Prim.Native.Nat.{ℕ, zero, suc, _+_, _-_, _≤_, _<_}
 use native.Mathlib.Omega.{arith}
 use lib.Bits.{bitXor}
@@ -17,7 +17,7 @@ use Rattle.ground.proofs.Truth.{decided}
 use Rattle.cidr.specs.Prefix.{network}
 use Rattle.routes.specs.Row.{Row, row}
 use Rattle.routes.specs.Plain.{plain}
-use Rattle.routes.proofs.Row.{Has}
+use Rattle.routes.proofs.Row.{has-at}
 use Rattle.routes.proofs.RowsOf.{rowAt, rows-taken, rows-front, row-there}
 use Rattle.routes.proofs.WellFormed.{half-parts}
 use Rattle.routes.proofs.Columns.{length-rows}
@@ -36,11 +36,6 @@ map-at : {A B : Type 0} (f : A → B) (xs : List A) (i : ℕ) (d : A) (e : B) �
 map-at f [] i d e l = absurd (omega arith)
 map-at f (x ∷ xs) zero d e l = refl
 map-at f (x ∷ xs) (suc i) d e l = map-at f xs i d e (omega arith)
-
-has-at : (rows : List Row) (i : ℕ) (d : Row) → i < length rows → Has (getD rows i d) rows
-has-at [] i d l = absurd (omega arith)
-has-at (r ∷ rs) zero d l = List·Memᴰ·head refl
-has-at (r ∷ rs) (suc i) d l = List·Memᴰ·tail (has-at rs i d (omega arith))
 
 module _ {keys hops : List ℕ} (s : Sorted keys hops) {k : ℕ} (within : k ≤ length keys) where
   abbrev rows : List Row

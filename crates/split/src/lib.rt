@@ -4,6 +4,7 @@ ghost use mathlib.Core.Path.{_≡_};
 ghost use mathlib.Core.List.{_∷_};
 ghost use Prim.Native.Nat.{_-_, _≤_, _<_};
 ghost use lib.ListN.{length, drop};
+ghost use lib.Bits.{bitXor};
 ghost use Rattle.ground.specs.Slots.{written};
 ghost use Rattle.routes.specs.Row.{listLent};
 ghost use Rattle.sweep.specs.Sweep.{allRows, Sorted};
@@ -46,6 +47,13 @@ fn copy(from: &[u64], to: &mut [u64])
     }
 }
 
+// Rule 11.5: a row's label, of its own hop and of the first half's answer at its network.
+fn label(hop: u16, first: u16) -> u16
+    ensures { λ r. ⌜ r ≡ bitXor hop first ⌝ }
+{
+    hop ^ first
+}
+
 // Rule 11.5: the labels of the rows from place k on. Each of them meets the open prefixes of the first half, in key order, so that every
 // prefix is opened and closed once.
 fn write_labels(keys: &[u64], hops: &[u16], k: usize, labels: &mut [u16])
@@ -63,7 +71,7 @@ fn write_labels(keys: &[u64], hops: &[u16], k: usize, labels: &mut [u16])
     while i < keys.len() {
         let to = cidr::network(keys[i]);
         s = sweep::step(first_keys, first_hops, s, to, &mut ends, &mut open_hops);
-        labels[at] = hops[i] ^ sweep::top_hop(&open_hops, s.depth, 0);
+        labels[at] = label(hops[i], sweep::top_hop(&open_hops, s.depth, 0));
         at += 1;
         i += 1;
     }

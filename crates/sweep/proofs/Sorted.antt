@@ -10,6 +10,7 @@ use native.Mathlib.Nat.{eq-or-lt-of-le}
 use native.Mathlib.Omega.{arith}
 use lib.ListN.{length, getD}
 use lib.Seq.{take-length}
+use Rattle.ground.specs.Column.{ascends}
 use Rattle.ground.proofs.Truth.{and-left, and-right}
 use Rattle.ground.proofs.Ascends.{ascends-at}
 use Rattle.cidr.specs.Prefix.{network, isPrefix}
@@ -34,12 +35,15 @@ module _ {keys hops : List ℕ} (s : Sorted keys hops) where
   unfolding halfRows
   in-order = and-right (prefixes (allRows keys hops)) _ (s .half)
 
-  pub climbs : (i j : ℕ) → i < j → j < length keys → getD keys i 0 < getD keys j 0
+  pub keys-are : keysOf (allRows keys hops) ≡ keys
+  keys-are = keys-of-rows (length keys) keys hops (omega arith) (omega (arith, s .paired)) ∙ take-length keys
+
+  pub keys-ascend : ascends keys ≡ true
   unfolding ascending
-  climbs i j l m =
-      let keys-are : keysOf (allRows keys hops) ≡ keys =
-      keys-of-rows (length keys) keys hops (omega arith) (omega (arith, s .paired)) ∙ take-length keys in
-      ascends-at keys (rw keys-are at in-order) i j l m
+  keys-ascend = rw keys-are at in-order
+
+  pub climbs : (i j : ℕ) → i < j → j < length keys → getD keys i 0 < getD keys j 0
+  climbs i j l m = ascends-at keys keys-ascend i j l m
 
   -- what is at most a row's network is at most those of the rows after it
   pub beyond : (a row : ℕ) → (row < length keys → a ≤ network (getD keys row 0))

@@ -61,11 +61,11 @@ step-requires c κs =
     let t = c .before .before .before .before .before in
     may-go (start t .pre .0) (within t) (t .loop .inv) (omega arith) (c .before .before .network .ensures)
 
-mul-labels : tie.Need-mul-labels Inv-loop μ-loop
-mul-labels c = omega arith
+mul-label : tie.Need-mul-label Inv-loop μ-loop
+mul-label c = omega arith
 
-shared-slice-read-labels : tie.Need-shared-slice-read-labels Inv-loop μ-loop
-shared-slice-read-labels c = omega (arith, start (c .before .before .before .before .before .before .before) .pre .0 .paired)
+shared-slice-read-label : tie.Need-shared-slice-read-label Inv-loop μ-loop
+shared-slice-read-label c = omega (arith, start (c .before .before .before .before .before .before .before) .pre .0 .paired)
 
 top-hop-requires : tie.Need-top-hop-requires Inv-loop μ-loop
 top-hop-requires c κs =
@@ -73,16 +73,21 @@ top-hop-requires c κs =
     let t = turn st in
     may-look (start t .pre .0) (within t) (t .loop .inv) (omega arith) (st .before .before .before .network .ensures) (st .step .ensures)
 
-mul-labels-2 : tie.Need-mul-labels-2 Inv-loop μ-loop
-mul-labels-2 c =
-    let t = turn (c .before .before .before) in
+label-requires : tie.Need-label-requires Inv-loop μ-loop
+label-requires c κs = tt
+
+mul-labels : tie.Need-mul-labels Inv-loop μ-loop
+mul-labels c =
+    let t = turn (c .before .before .before .before) in
     omega (arith, few-slots (start t .pre .0) (within t) (t .loop .inv) (omega arith))
 
 slice-write-labels : tie.Need-slice-write-labels Inv-loop μ-loop
-slice-write-labels c = let t = turn (c .before .before .before) in free-slot (start t .pre .0) (within t) (t .loop .inv) (omega arith)
+slice-write-labels c = let t = turn (c .before .before .before .before) in free-slot (start t .pre .0) (within t) (t .loop .inv) (omega arith)
 
 add-at : tie.Need-add-at Inv-loop μ-loop
-add-at c = let t = turn (c .before .before .before) in omega (arith, few-slots (start t .pre .0) (within t) (t .loop .inv) (omega arith))
+add-at c =
+    let t = turn (c .before .before .before .before) in
+    omega (arith, few-slots (start t .pre .0) (within t) (t .loop .inv) (omega arith))
 
 add-i : tie.Need-add-i Inv-loop μ-loop
 add-i c = omega arith
@@ -92,10 +97,13 @@ loop-less c = omega arith
 
 loop-again : tie.Need-loop-again Inv-loop μ-loop
 loop-again c =
-    let st = c .before .before .before in
+    let looked = c .before in
+    let st = looked .before .before .before in
     let t = turn st in
-    labelling-next (start t .pre .0) (within t) (t .loop .inv) (omega arith) (st .before .before .before .network .ensures)
-    (st .step .ensures) (c .top-hop .ensures)
+    let on = st .before .before .before .before .before .loop-test .taken in
+    rw (c .label .ensures)
+    (labelling-next (start t .pre .0) (within t) (t .loop .inv) on (st .before .before .before .network .ensures)
+    (st .step .ensures) (looked .top-hop .ensures))
 
 same-length : tie.Need-same-length Inv-loop μ-loop
 same-length c = filling-long (c .before .loop .inv .filling)
@@ -117,10 +125,11 @@ write-labels-spec =
     shared-slice-read-network
     network-requires
     step-requires
-    mul-labels
-    shared-slice-read-labels
+    mul-label
+    shared-slice-read-label
     top-hop-requires
-    mul-labels-2
+    label-requires
+    mul-labels
     slice-write-labels
     add-at
     add-i
