@@ -29,7 +29,7 @@ use Rattle.runs.specs.Lookup.{runLookup, bytesLookup}
 use Rattle.host.specs.Exports.{lookupForC, runLookupForC}
 use Rattle.segment.specs.Packed.{width, wordsOf, basesOf, packedHopsOf}
 use Rattle.segment.specs.Lookup.{segmentLent, packedLookup}
-use Rattle.split.specs.Split.{secondHalf, splitLent, split}
+use Rattle.split.specs.Split.{secondHalf, splitLent, SplitOutcome, split}
 use Rattle.text.specs.Text.{textOf, WriteOutcome, write}
 use Rattle.text.specs.Program.{bytes, countLines, runLines}
 use Rattle.figures_proved.specs.Figure.{Figure, figure, one, asNumber, passes, fails, prefix, route}
@@ -68,6 +68,10 @@ nested = route 10 0 0 0 8 1 ∷ route 10 64 0 0 10 2 ∷ []
 -- the number of a split with room for two rows
 abbrev pub splitOf : ℕ → ℕ → List ℕ → List ℕ → ℕ
 splitOf k count keys hops = split k (listLent count keys hops) (splitLent (0 ∷ 0 ∷ []) (0 ∷ 0 ∷ [])) .number
+
+-- what the split of 0.0.0.0/0 hop 4 with size 1 does with two slices
+abbrev pub partOf : List ℕ → List ℕ → SplitOutcome
+partOf keys labels = split 1 (listLent 1 (0 ∷ []) (4 ∷ [])) (splitLent keys labels)
 
 -- a half of one row, 10.0.0.0/8 with label 0, and one of a row without a key
 abbrev pub label0 : ListLent
@@ -221,6 +225,16 @@ corners =
     ∷ figure (splitOf 1 1 (prefix 10 0 0 0 8 ∷ []) (4 ∷ []) ∷ split 1 (listLent 1 (0 ∷ []) (4 ∷ [])) (splitLent [] (0 ∷ [])) .number ∷ [])
     (18 ∷ 13 ∷ [])
     ∷ one (splitOf 1 1 (0 ∷ []) (4 ∷ [])) 0
+    -- Rules 11.1 to 11.3 and 11.7, two at a time: 11 before 13, 17 before 18, 18 before 13. The empty list has no size, so it is 17.
+    ∷ figure (split 1 illHalf (splitLent [] []) .number ∷ splitOf 0 1 (prefix 10 0 0 0 8 ∷ []) (4 ∷ []) ∷ []) (11 ∷ 17 ∷ [])
+    ∷ one (split 1 (listLent 1 (prefix 10 0 0 0 8 ∷ []) (4 ∷ [])) (splitLent [] []) .number) 18
+    ∷ figure (splitOf 0 0 [] [] ∷ splitOf 1 0 [] [] ∷ []) (17 ∷ 17 ∷ [])
+    -- Rule 11.7: a slot behind the second half stays. Rule 5.4: with room in one slice alone, that one stays too.
+    ∷ figure (partOf (9 ∷ 9 ∷ []) (7 ∷ 7 ∷ []) .keys ++ partOf (9 ∷ 9 ∷ []) (7 ∷ 7 ∷ []) .labels) (0 ∷ 9 ∷ 0 ∷ 7 ∷ [])
+    ∷ figure (partOf (9 ∷ []) [] .number ∷ partOf (9 ∷ []) [] .count ∷ partOf (9 ∷ []) [] .keys) (13 ∷ 0 ∷ 9 ∷ [])
+    -- Rule 11.5: labels under 0.0.0.0/0 and under 128.0.0.0/1, up to the last address; a label of 0, whose row stays.
+    ∷ figure (hopsOf (secondHalf 1 ends) ++ hopsOf (secondHalf 2 ends)) (0 ∷ 1 ∷ 14 ∷ 0 ∷ 15 ∷ [])
+    ∷ figure (hopsOf (secondHalf 1 (route 0 0 0 0 0 1 ∷ nested))) (0 ∷ 0 ∷ 3 ∷ [])
     -- Rule 2.5: a prefix holds a longer one inside it and itself, and no shorter one.
     ∷ passes (covers (prefix 10 0 0 0 8) (prefix 10 64 0 0 10))
     ∷ passes (covers (prefix 10 0 0 0 8) (prefix 10 0 0 0 8))
@@ -228,6 +242,8 @@ corners =
     -- Rule 12.3: a buffer as long as the text, one byte longer, and one byte short.
     ∷ figure (wrote5 (bytes "____________") .buffer ++ wrote5 (bytes "_____________") .buffer) (bytes "0.0.0.0/0 5\n0.0.0.0/0 5\n_")
     ∷ one (wrote5 (bytes "___________") .number) 13
+    -- Rules 12.1 and 12.3: the empty list fits an empty buffer; an ill-formed list is 11 without any room too.
+    ∷ figure (write (listLent 0 [] []) [] .number ∷ write (listLent 0 [] []) [] .length ∷ write illHalf [] .number ∷ []) (0 ∷ 0 ∷ 11 ∷ [])
     -- Rule 9.2: a /8 and a /10 around a segment give width 0, a /17 in it 1, a /32 in it 16.
     ∷ figure (width 2560 nested ∷ width 2624 (announced (prefix 10 64 128 0 17) 3 nested) ∷ []) (0 ∷ 1 ∷ [])
     ∷ one (width 65535 (announced (prefix 255 255 255 255 32) 3 nested)) 16
