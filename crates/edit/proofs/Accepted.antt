@@ -39,12 +39,16 @@ agreed-good p e =
     good-parts (listOf p) (and-right (leb (p .list .count) (listRoom (p .list .keys) (p .list .hops))) _ (agreed-well p e))
 
 -- a prefix that is no fault
-named : (net len : ℕ) → badPrefix net len ≡ false → isPrefix (keyOf net len) ≡ true
+pub named-short : (net len : ℕ) → badPrefix net len ≡ false → len ≤ 32
+unfolding badPrefix
+named-short net len e = ltb-false 32 len (or-neither (ltb 32 len) _ e .0)
+
+pub named : (net len : ℕ) → badPrefix net len ≡ false → isPrefix (keyOf net len) ≡ true
 unfolding badPrefix
 named net len e = not-false _ (or-neither (ltb 32 len) _ e .1)
 
 module _ (after : List Row) (p : Pair) (e : exceeds after p ≡ false) where
-  fit : (length after ≤ listRoom (p .list .keys) (p .list .hops))
+  pub fit : (length after ≤ listRoom (p .list .keys) (p .list .hops))
       × (length (runStarts after) ≤ runRoom (p .table .starts) (p .table .hops))
   unfolding exceeds
   fit =

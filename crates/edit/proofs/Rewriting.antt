@@ -1,64 +1,134 @@
--- One column of the run table, rewritten: the block of runs above the prefix goes where it will stand, the runs inside are written from the
--- slot that is theirs or that they share with the run before, and one run is put at the end where it begins there.
+-- One column of the run table, rewritten in place: the block of runs behind the prefix goes where it will stand, a number is put before it,
+-- and the runs inside are written from their slot on. Where these reach up to the block, the last of them goes over that number. What the
+-- slice holds then is the spliced column, and so it is where the first number of the inside gives way to another.
 -- Assumes nothing.
 use mathlib.Core.Path.{_≡_, sym, ap, _∙_}
-use mathlib.Core.List.{List, [], _∷_, _++_, append-assoc}
-use Prim.Native.Nat.{ℕ, suc, _+_, _-_, _≤_, _<_}
+use mathlib.Core.Logic.{⊎-elim}
+use mathlib.Core.List.{List, [], _∷_, _++_, append-assoc, append-nil}
+use Prim.Native.Nat.{ℕ, suc, _+_, _-_, _≤_, _<_, max}
+use native.Mathlib.Nat.{eq-or-lt-of-le}
 use native.Mathlib.Omega.{arith}
-use native.Mathlib.Numerals.{add-one}
-use lib.ListN.{drop-of-length-le, length, getD, take, drop, set, length-drop, length-append}
-use lib.Seq.{length-take-le, drop-at, take-append-le, drop-append-le, take-take, take-suc, set-at, drop-drop}
-use Rattle.ground.specs.Slots.{written}
+use lib.ListN.{length, take, drop, set, replicate, length-take, length-drop, length-append, drop-of-length-le}
+use lib.Seq.{length-take-le, drop-at, take-append-le, drop-append-add, take-take, take-suc, take-add, take-all, set-at, drop-drop}
+use lib.Dec.{ltb}
+use borrow.Author.Tests.{lt-ltb, le-ltb}
+use borrow.Rule.Slice.PartMut.{midOf, putMid}
+use Rattle.ground.specs.Slots.{written, rewritten}
+use Rattle.ground.specs.Column.{shifted}
+use Rattle.edit.specs.declared.table.Splice.{Splice}
+use Rattle.within.specs.Seams.{one}
+use Rattle.edit.specs.Inside.Splice.{spliced, Splices}
 
--- the runs inside, written over the slots before a block
-module _ (xs rest inner : List ℕ) (x to : ℕ) (room : to ≤ length xs) (fits : x + length inner ≤ to) where
-  front-long : length (take to xs) ≡ to
-  front-long = length-take-le to xs room
+-- what stands from the slot `to` on: the old numbers from `past` on, 0 in the slots that only the old table reached, and the slots beyond
+abbrev block : ℕ → Splice → List ℕ → List ℕ
+block n s xs =
+    take (n - s .past) (drop (s .past) xs) ++ (replicate (n - (s .to + (n - s .past))) 0 ++ drop (max (s .to + (n - s .past)) n) xs)
 
-  pub inside-written : take x (take to xs ++ rest) ++ written inner (drop x (take to xs ++ rest))
-      ≡ take x xs ++ (inner ++ (drop (x + length inner) (take to xs) ++ rest))
-  unfolding written
-  inside-written =
-      rw (
-        take-append-le x (take to xs) rest (omega (arith, front-long)),
-        drop-append-le x (take to xs) rest (omega (arith, front-long)),
-        drop-append-le (length inner) (drop x (take to xs)) rest (simp length-drop (omega (arith, front-long))),
-        drop-drop,
-        take-take x to xs (omega arith),
-      )
+-- the whole slice: what is below, the inside, one number more or none, and the block
+abbrev laid : ℕ → Splice → List ℕ → ℕ → List ℕ → List ℕ
+laid n s inner e xs = take (s .from) xs ++ (inner ++ (one (ltb (s .from + length inner) (s .to)) e ++ block n s xs))
 
--- the slot for a run at the end, or none
-pub no-slot : (xs : List ℕ) (n : ℕ) → n ≤ length xs → drop n (take n xs) ≡ []
-no-slot xs n l = drop-of-length-le (take n xs) {i = n} (omega (arith, length-take-le n xs l))
+one-long : (a b e : ℕ) → a ≤ b → b ≤ a + 1 → length (one (ltb a b) e) ≡ b - a
+one-long a b e l m = ⊎-elim
+    (λ (q : a ≡ b). rw (le-ltb a b (omega arith)) (omega arith))
+    (λ (q : a < b). rw (lt-ltb a b q) (omega arith))
+    (eq-or-lt-of-le l)
 
-pub one-slot : (xs : List ℕ) (n : ℕ) → n < length xs → drop n (take (n + 1) xs) ≡ getD xs n 0 ∷ []
-one-slot xs n l = rw (add-one, take-suc xs n 0 l) (drop-at (take n xs) _ n (length-take-le n xs (omega arith)))
+-- the part of a slice from a slot on that was lent has the inside at its front, and the slice with that part
+abbrev WrittenFrom : ℕ → List ℕ → List ℕ → List ℕ → Type 0
+WrittenFrom x inner zs part = part ≡ written inner (midOf x (length zs - x) zs)
 
--- the run at the end is put behind those inside
-pub end-put : (front inner rest : List ℕ) (y e n : ℕ) → n ≡ length front + length inner
-    → set (front ++ (inner ++ ((y ∷ []) ++ rest))) n e ≡ front ++ (inner ++ (e ∷ rest))
-end-put front inner rest y e n q =
-    ap (λ ys. set ys n e) (sym (append-assoc front inner (y ∷ rest)))
-    ∙ set-at (front ++ inner) y rest e n (length-append front inner ∙ sym q)
-    ∙ append-assoc front inner (e ∷ rest)
+abbrev withPart : ℕ → List ℕ → List ℕ → List ℕ
+withPart x zs part = putMid x (length zs - x) zs part
 
--- one number more of the runs below
-whole-below : (xs rest : List ℕ) (i : ℕ) → 0 < i → i ≤ length xs → take (i - 1) xs ++ getD xs (i - 1) 0 ∷ rest ≡ take i xs ++ rest
-whole-below xs rest i some room =
-    let back : i ≡ suc (i - 1) = omega arith in
-    let more = ap (λ n. take n xs) back ∙ take-suc xs (i - 1) 0 (omega arith) in
-    sym (ap (_++ rest) more ∙ append-assoc (take (i - 1) xs) (getD xs (i - 1) 0 ∷ []) rest)
+part-written : (x : ℕ) (zs inner part : List ℕ) → WrittenFrom x inner zs part → withPart x zs part ≡ take x zs ++ written inner (drop x zs)
+part-written x zs inner part p =
+    let long : length (drop x zs) ≡ length zs - x = length-drop x zs in
+    rw (p, take-all (length zs - x) (drop x zs) (omega arith), drop-of-length-le (drop x zs) {i = length zs - x} (omega arith), append-nil)
 
--- the shared slot keeps its own number, and with it the runs below the prefix are whole
-pub share-kept : (xs inner rest : List ℕ) (i : ℕ) → 0 < i → i ≤ length xs → 0 < length inner
-    → set (take (i - 1) xs ++ (inner ++ rest)) (i - 1) (getD xs (i - 1) 0) ≡ take i xs ++ (drop 1 inner ++ rest)
-share-kept xs [] rest i some room l = absurd (omega arith)
-share-kept xs (h ∷ t) rest i some room l =
-    set-at (take (i - 1) xs) h (t ++ rest) (getD xs (i - 1) 0) (i - 1) (length-take-le (i - 1) xs (omega arith))
-    ∙ whole-below xs (t ++ rest) i some room
+first-put : (below inner rest : List ℕ) (c x : ℕ) → length below ≡ x → 0 < length inner
+    → set (below ++ (inner ++ rest)) x c ≡ below ++ ((c ∷ drop 1 inner) ++ rest)
+first-put below [] rest c x q l = absurd (omega arith)
+first-put below (h ∷ t) rest c x q l = set-at below h (t ++ rest) c x q
 
--- or holds it already
-pub share-same : (xs inner rest : List ℕ) (i : ℕ) → 0 < i → i ≤ length xs → 0 < length inner → getD inner 0 0 ≡ getD xs (i - 1) 0
-    → take (i - 1) xs ++ (inner ++ rest) ≡ take i xs ++ (drop 1 inner ++ rest)
-share-same xs [] rest i some room l e = absurd (omega arith)
-share-same xs (h ∷ t) rest i some room l e = rw e (whole-below xs (t ++ rest) i some room)
+module _ {m net end n : ℕ} {s : Splice} (k : Splices m net end n s) (some : 0 < m) (xs : List ℕ) (room : n ≤ length xs)
+    (fits : s .to + (n - s .past) ≤ length xs) where
+  moved : shifted n (s .past) (s .to) xs ≡ take (s .to) xs ++ block n s xs
+  unfolding shifted rewritten
+  moved =
+      let long : length (take (s .to) xs ++ take (n - s .past) (drop (s .past) xs)) ≡ s .to + (n - s .past)
+      = simp (length-append, length-take, length-drop) (omega arith) in
+      rw (long, append-assoc)
+
+  -- a number put before the block
+  abbrev front : List ℕ
+  front = take (s .to - 1) xs
+
+  front-long : length front ≡ s .to - 1
+  front-long = length-take-le (s .to - 1) xs (omega arith)
+
+  put : (v : ℕ) → set (shifted n (s .past) (s .to) xs) (s .to - 1) v ≡ front ++ v ∷ block n s xs
+  put v =
+      let last : s .to ≡ suc (s .to - 1) = omega arith in
+      let cut = ap (λ i. take i xs) last ∙ take-suc xs (s .to - 1) 0 (omega arith) in
+      ap (λ ys. set ys (s .to - 1) v) (moved ∙ ap (_++ block n s xs) cut ∙ append-assoc front _ (block n s xs))
+      ∙ set-at front _ (block n s xs) v (s .to - 1) front-long
+
+  module _ (inner : List ℕ) (many : length inner ≡ m) (e : ℕ) where
+    spliced-long : length (spliced (s .from) (s .to) (s .past) e inner (take n xs)) ≡ s .to + (n - s .past)
+    spliced-long =
+        simp (length-append, length-take, length-drop)
+        (omega (arith, one-long (s .from + length inner) (s .to) e (omega arith) (omega arith)))
+
+    laid-spliced : laid n s inner e xs ≡ rewritten (spliced (s .from) (s .to) (s .past) e inner (take n xs)) n xs
+    unfolding rewritten
+    laid-spliced =
+        let parts : n ≡ s .past + (n - s .past) = omega arith in
+        let kept : drop (s .past) (take n xs) ≡ take (n - s .past) (drop (s .past) xs)
+        = ap (λ i. drop (s .past) (take i xs)) parts ∙ ap (drop (s .past)) (take-add (s .past) (n - s .past) xs)
+        ∙ drop-at (take (s .past) xs) _ (s .past) (length-take-le (s .past) xs (omega arith)) in
+        rw (spliced-long, kept, take-take (s .from) n xs (omega arith)) (simp append-assoc)
+
+  -- the number before the block is left where the runs inside end before it
+  module _ (inner : List ℕ) (many : length inner ≡ m) (v e : ℕ) (same : s .from + m < s .to → v ≡ e) where
+    left : drop (s .from + length inner) (front ++ v ∷ block n s xs) ≡ one (ltb (s .from + length inner) (s .to)) e ++ block n s xs
+    left = ⊎-elim
+        (λ (q : s .from + m ≡ s .to). rw (le-ltb (s .from + length inner) (s .to) (omega arith)) (over (omega (arith, front-long))))
+        (λ (l : s .from + m < s .to). rw (lt-ltb (s .from + length inner) (s .to) (omega arith), same l)
+        (drop-at front _ (s .from + length inner) (omega (arith, front-long))))
+        (eq-or-lt-of-le (k .behind))
+      where
+        over : s .from + length inner ≡ length front + 1 → drop (s .from + length inner) (front ++ v ∷ block n s xs) ≡ block n s xs
+        over q = rw q (drop-append-add front (v ∷ block n s xs) 1)
+
+    inside : take (s .from) (front ++ v ∷ block n s xs) ++ written inner (drop (s .from) (front ++ v ∷ block n s xs)) ≡ laid n s inner e xs
+    unfolding written
+    inside =
+        rw (
+          drop-drop (length inner) (s .from) (front ++ v ∷ block n s xs),
+          left,
+          take-append-le (s .from) front (v ∷ block n s xs) (omega (arith, front-long)),
+          take-take (s .from) (s .to - 1) xs (omega arith),
+        )
+
+    -- the slice when the part that was lent is back
+    module _ {ys part : List ℕ} (was : ys ≡ shifted n (s .past) (s .to) xs)
+        (is : WrittenFrom (s .from) inner (set ys (s .to - 1) v) part) where
+      back : withPart (s .from) (set ys (s .to - 1) v) part ≡ laid n s inner e xs
+      back =
+          part-written (s .from) (set ys (s .to - 1) v) inner part is
+          ∙ ap (λ zs. take (s .from) zs ++ written inner (drop (s .from) zs)) (ap (λ zs. set zs (s .to - 1) v) was ∙ put v)
+          ∙ inside
+
+      pub column : withPart (s .from) (set ys (s .to - 1) v) part ≡ rewritten (spliced (s .from) (s .to) (s .past) e inner (take n xs)) n xs
+      column = back ∙ laid-spliced inner many e
+
+      -- and with a number of its own in the first slot
+      pub column-first : (c : ℕ) → set (withPart (s .from) (set ys (s .to - 1) v) part) (s .from) c
+          ≡ rewritten (spliced (s .from) (s .to) (s .past) e (c ∷ drop 1 inner) (take n xs)) n xs
+      column-first c =
+          let rest : length (c ∷ drop 1 inner) ≡ length inner = simp length-drop (omega arith) in
+          ap (λ zs. set zs (s .from) c) back
+          ∙ first-put (take (s .from) xs) inner _ c (s .from) (length-take-le (s .from) xs (omega arith)) (omega arith)
+          ∙ ap (λ i. take (s .from) xs ++ ((c ∷ drop 1 inner) ++ (one (ltb (s .from + i) (s .to)) e ++ block n s xs))) (sym rest)
+          ∙ laid-spliced (c ∷ drop 1 inner) (rest ∙ many) e

@@ -6,7 +6,7 @@ use mathlib.Core.List.{List, [], _∷_, _++_}
 use Prim.Native.Nat.{ℕ}
 use lib.ListN.{length}
 use lib.Dec.{ltb, eqb}
-use Rattle.ground.specs.Numbers.{Check, check, outcome, done, badEdit, notListed, noRoom}
+use Rattle.ground.specs.Numbers.{Check, check, outcome, done, illFormed, noRoom, notItsRuns, badEdit, notListed}
 use Rattle.ground.specs.Slots.{rewritten}
 use Rattle.cidr.specs.Prefix.{keyOf, isPrefix}
 use Rattle.routes.specs.Row.{Row, listRoom, keysOf, hopsOf}
@@ -14,6 +14,8 @@ use Rattle.routes.specs.Change.{listed, announced, withdrawn, changedBetween}
 use Rattle.runs.specs.Table.{runStarts, runHops}
 use Rattle.runs.specs.Build.{runRoom}
 use Rattle.runs.specs.Pair.{Pair, listOf, pairChecks}
+use Rattle.edit.specs.declared.Edit.{Edit}
+use Rattle.edit.specs.declared.Edit.the-variants.{Done, BadEdit, IllFormed, NotItsRuns, NotListed, NoRoom}
 
 -- Rule 10.2: an edit names no prefix if the length is above 32 or the network has a host bit that is 1.
 unfoldable pub badPrefix : ℕ → ℕ → Bool
@@ -36,18 +38,13 @@ pub record Edited : Type 0 where
   pub starts : List ℕ
   pub rhops : List ℕ
 
+abbrev pub editOutcome : ℕ → ℕ → ℕ → ℕ → List ℕ → List ℕ → List ℕ → List ℕ → Edited
+editOutcome n changed count runs keys hops starts rhops =
+    record { number = n; changed = changed; count = count; runs = runs; keys = keys; hops = hops; starts = starts; rhops = rhops }
+
 -- Rule 5.4: a refusal returns its number and 0 for the rest, and leaves the slices as they were.
 abbrev pub editRefused : Pair → ℕ → Edited
-editRefused p n = record {
-  number = n;
-  changed = 0;
-  count = 0;
-  runs = 0;
-  keys = p .list .keys;
-  hops = p .list .hops;
-  starts = p .table .starts;
-  rhops = p .table .hops;
-}
+editRefused p n = editOutcome n 0 0 0 (p .list .keys) (p .list .hops) (p .table .starts) (p .table .hops)
 
 -- Rule 10.7: the slices have the edited list and its run table at the front. Rule 10.8: slots that only an old count reached hold 0.
 abbrev pub editDone : List Row → Pair → Edited
@@ -92,3 +89,12 @@ withdrawChecks net len p =
 
 unfoldable pub withdraw : ℕ → ℕ → Pair → Edited
 withdraw net len p = outcome (withdrawChecks net len p) (editRefused p) (editDone (afterWithdraw net len p) p)
+
+-- what the code's answer and the four slices at exit say
+abbrev pub editGave : Edit → List ℕ → List ℕ → List ℕ → List ℕ → Edited
+editGave (Done c n r) keys hops starts rhops = editOutcome done c n r keys hops starts rhops
+editGave BadEdit keys hops starts rhops = editOutcome badEdit 0 0 0 keys hops starts rhops
+editGave IllFormed keys hops starts rhops = editOutcome illFormed 0 0 0 keys hops starts rhops
+editGave NotItsRuns keys hops starts rhops = editOutcome notItsRuns 0 0 0 keys hops starts rhops
+editGave NotListed keys hops starts rhops = editOutcome notListed 0 0 0 keys hops starts rhops
+editGave NoRoom keys hops starts rhops = editOutcome noRoom 0 0 0 keys hops starts rhops

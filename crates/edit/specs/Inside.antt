@@ -1,4 +1,7 @@
 -- What the crate's functions promise one another. No promise to a caller rests on how these are worded.
-pub mod Middle
-pub mod Seams
-pub mod Own
+pub mod Splice
+pub mod Joints
+pub mod Found
+pub mod Local
+pub mod Plan
+pub mod Writing
