@@ -6,8 +6,10 @@ mod Fields
 mod Judging
 mod RowParse
 pub mod Splitting
+pub mod Pulling
 mod Taking
 mod Filling
 pub mod Outcome
 pub mod Settled
+pub mod PulledRows
 pub mod Promise

@@ -1,8 +1,9 @@
--- An import and a row's reading are settled: two outcomes that keep the promise for one input are the same.
+-- An import, a row's reading and a pull are settled: two outcomes that keep the promise for one input are the same.
 -- Assumes nothing.
 use mathlib.Core.Path.{_≡_, refl, sym, ap, _∙_}
 use mathlib.Core.Bool.{cond}
 use mathlib.Core.List.{List}
+use mathlib.Core.Option.{Option, none, some}
 use Prim.Native.Nat.{ℕ}
 use native.Mathlib.Omega.{arith}
 use lib.Dec.{eqb}
@@ -12,9 +13,13 @@ use Rattle.feed.specs.declared.ImportEnd.{ImportEnd}
 use Rattle.feed.specs.declared.ImportEnd.the-variants.{Done, ReportShort}
 use Rattle.feed.specs.declared.RowRead.{RowRead}
 use Rattle.feed.specs.declared.RowRead.the-variants.{Good, Shape, Range, HostBits}
+use Rattle.feed.specs.declared.NextRow.{NextRow}
+use Rattle.feed.specs.declared.NextRow.the-variants.{Row, End}
+use Rattle.feed.specs.declared.RowPulled.{RowPulled}
 use Rattle.feed.specs.RowNumber.{rowShape, rowRange}
 use Rattle.feed.specs.Reading.{Reading, good, bad, readRow, readingOf}
 use Rattle.feed.specs.Import.{ImportLent, import, endNumber, importGave}
+use Rattle.feed.specs.Pull.{pull, nextReading, pullGave}
 
 same-end : (e e′ : ImportEnd) → endNumber e ≡ endNumber e′ → e ≡ e′
 same-end Done Done n = refl
@@ -55,3 +60,21 @@ answer-of-reading HostBits = refl
 -- what one row says by itself
 pub read-row-settled : (row : List ℕ) (r r′ : RowRead) → readingOf r ≡ readRow row → readingOf r′ ≡ readRow row → r ≡ r′
 read-row-settled row r r′ e e′ = sym (answer-of-reading r) ∙ (ap answerOf (e ∙ sym e′) ∙ answer-of-reading r′)
+
+-- what a pull finds, and its next place
+nextOf : Option Reading → NextRow
+nextOf none = End
+nextOf (some x) = Row (answerOf x)
+
+next-of-reading : (r : NextRow) → nextOf (nextReading r) ≡ r
+unfolding nextOf
+next-of-reading (Row r) = ap Row (answer-of-reading r)
+next-of-reading End = refl
+
+abbrev pulled : NextRow → ℕ → RowPulled
+pulled r n = record { row = r; next = n }
+
+pub pull-settled : (feed : List ℕ) (at : ℕ) (r r′ : RowPulled) → pullGave r ≡ pull feed at → pullGave r′ ≡ pull feed at → r ≡ r′
+pull-settled feed at r r′ e e′ =
+    sym (ap (λ x. pulled x (r .next)) (next-of-reading (r .row)))
+    ∙ (ap (λ p. pulled (nextOf (p .reading)) (p .next)) (e ∙ sym e′) ∙ ap (λ x. pulled x (r′ .next)) (next-of-reading (r′ .row)))
