@@ -9,16 +9,20 @@ use Prim.Native.Nat.{ℕ, zero, suc, _+_, _-_, _≤_, _<_, min}
 use native.Mathlib.Omega.{arith}
 use lib.Dec.{ltb, leb}
 use lib.ListN.{length, getD, take, drop}
+use denote.Ref.{now}
 use borrow.Author.Tests.{ltb-true, ltb-false}
 use Rattle.ground.specs.Numbers.{firstFault}
 use Rattle.ground.proofs.Truth.{decided}
-use Rattle.routes.specs.Row.{Row}
+use Rattle.routes.specs.Row.{Row as ListRow}
 use Rattle.routes.specs.Change.{listed}
+use Rattle.feed.specs.declared.RowRead.{RowRead}
+use Rattle.feed.specs.declared.NextRow.the-variants.{Row, End}
+use Rattle.feed.specs.declared.Reader.{Reader}
 use Rattle.feed.specs.Rows.{rowsIn, rowLength}
 use Rattle.feed.specs.RowNumber.{rowTaken, rowShape, rowHostBits, rowRepeat, rowNoRoom}
-use Rattle.feed.specs.Reading.{Reading, good, bad, readRow}
+use Rattle.feed.specs.Reading.{Reading, good, bad, readRow, readingOf}
 use Rattle.feed.specs.Import.{rowNumber, rowNumbers}
-use Rattle.feed.specs.Pull.{Pulled, before, pull, pullsFrom, pulls}
+use Rattle.feed.specs.Pull.{Pulled, before, pull, pullsFrom, pulls, PulledBy}
 use Rattle.feed.proofs.Splitting.{rows-from, no-rows-at-end, rows-at-most}
 use Rattle.feed.proofs.Pulling.{pull-at-end, pull-row}
 use Rattle.feed.proofs.Importing.{number-of-row}
@@ -75,8 +79,31 @@ module _ (feed : List ℕ) where
   unfolding pulls
   pulls-are-rows = pulls-are-rows-from (length feed) 0 (rows-at-most feed)
 
+-- A host pulls a reader until there is no row, and has had these rows.
+pub data PullsAll : Reader → List RowRead → Type 0 where
+  ends : {r r′ : Reader} → PulledBy r End r′ → PullsAll r []
+  goes-on : {r r′ : Reader} {x : RowRead} {xs : List RowRead} → PulledBy r (Row x) r′ → PullsAll r′ xs → PullsAll r (x ∷ xs)
+
+pulls-in-turn : {r : Reader} {xs : List RowRead} → PullsAll r xs → (n : ℕ) → length xs < n
+    → pullsFrom n (now (r .feed)) (r .place) ≡ map readingOf xs
+pulls-in-turn (ends p) zero l = absurd (omega arith)
+pulls-in-turn {r} (ends p) (suc n) l = pulls-step (now (r .feed)) n (r .place) (sym (p .gave))
+pulls-in-turn (goes-on p more) zero l = absurd (omega arith)
+pulls-in-turn {r} (goes-on {r′ = r′} {x = x} p more) (suc n) l =
+    pulls-step (now (r .feed)) n (r .place) (sym (p .gave))
+    ∙ (ap (λ f. readingOf x ∷ pullsFrom n (now f) (r′ .place)) (sym (p .same-feed))
+    ∙ ap (λ rest. readingOf x ∷ rest) (pulls-in-turn more n (omega arith)))
+
+-- They are the rows from the reader's place on, all of them in their order.
+pub reader-gives-rows : (r : Reader) (xs : List RowRead) → PullsAll r xs
+    → map readingOf xs ≡ map readRow (rowsIn (drop (r .place) (now (r .feed))))
+reader-gives-rows r xs p =
+    let feed = now (r .feed) in
+    let n : ℕ = suc (length xs + length (rowsIn (drop (r .place) feed))) in
+    sym (pulls-in-turn p n (omega arith)) ∙ pulls-are-rows-from feed n (r .place) (omega arith)
+
 -- The numbers 1, 2 and 3 of an import are those of the pulls, row by row: they hang on the row alone.
-module _ (room : ℕ) (list : List Row) where
+module _ (room : ℕ) (list : List ListRow) where
   bad-is-itself : (n : ℕ) {x : Reading} → x ≡ bad n → rowNumber room list x ≡ n
   unfolding rowNumber
   bad-is-itself n e = ap (rowNumber room list) e

@@ -7,6 +7,7 @@ use mathlib.Core.Option.{Option, none, some}
 use Prim.Native.Nat.{ℕ}
 use native.Mathlib.Omega.{arith}
 use lib.Dec.{eqb}
+use denote.Ref.{RefT, now}
 use Rattle.feed.specs.declared.Counts.{Counts}
 use Rattle.feed.specs.declared.Imported.{Imported}
 use Rattle.feed.specs.declared.ImportEnd.{ImportEnd}
@@ -16,10 +17,11 @@ use Rattle.feed.specs.declared.RowRead.the-variants.{Good, Shape, Range,
 use Rattle.feed.specs.declared.NextRow.{NextRow}
 use Rattle.feed.specs.declared.NextRow.the-variants.{Row, End}
 use Rattle.feed.specs.declared.RowPulled.{RowPulled}
+use Rattle.feed.specs.declared.Reader.{Reader}
 use Rattle.feed.specs.RowNumber.{rowShape, rowRange}
 use Rattle.feed.specs.Reading.{Reading, good, bad, readRow, readingOf}
 use Rattle.feed.specs.Import.{ImportLent, import, endNumber, importGave}
-use Rattle.feed.specs.Pull.{pull, nextReading, pullGave}
+use Rattle.feed.specs.Pull.{pull, nextReading, pullGave, PulledBy}
 
 same-end : (e e′ : ImportEnd) → endNumber e ≡ endNumber e′ → e ≡ e′
 same-end Done Done n = refl
@@ -78,3 +80,20 @@ pub pull-settled : (feed : List ℕ) (at : ℕ) (r r′ : RowPulled) → pullGav
 pull-settled feed at r r′ e e′ =
     sym (ap (λ x. pulled x (r .next)) (next-of-reading (r .row)))
     ∙ (ap (λ p. pulled (nextOf (p .reading)) (p .next)) (e ∙ sym e′) ∙ ap (λ x. pulled x (r′ .next)) (next-of-reading (r′ .row)))
+
+-- a reader, new and after a pull
+abbrev reader : RefT (List ℕ) → ℕ → Reader
+reader f n = record { feed = f; place = n }
+
+same-reader : (r r′ : Reader) → r .feed ≡ r′ .feed → r .place ≡ r′ .place → r ≡ r′
+same-reader r r′ e f = ap (λ x. reader x (r .place)) e ∙ ap (reader (r′ .feed)) f
+
+pub reader-new-settled : (feed : RefT (List ℕ)) (r r′ : Reader)
+    → (r .feed ≡ feed) × (r .place ≡ 0) → (r′ .feed ≡ feed) × (r′ .place ≡ 0) → r ≡ r′
+reader-new-settled feed r r′ e e′ = same-reader r r′ (e .0 ∙ sym (e′ .0)) (e .1 ∙ sym (e′ .1))
+
+pub reader-pull-settled : (was : Reader) (row row′ : NextRow) (is is′ : Reader)
+    → PulledBy was row is → PulledBy was row′ is′ → (row ≡ row′) × (is ≡ is′)
+reader-pull-settled was row row′ is is′ e e′ =
+    let same = pull-settled (now (was .feed)) (was .place) (pulled row (is .place)) (pulled row′ (is′ .place)) (e .gave) (e′ .gave) in
+    (ap (λ p. p .row) same, same-reader is is′ (e .same-feed ∙ sym (e′ .same-feed)) (ap (λ p. p .next) same))

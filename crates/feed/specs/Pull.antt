@@ -1,13 +1,16 @@
 -- Rules 4.11 to 4.14: a pull reads the row from its place on and gives what the row says, with the place behind its LF or the feed's end.
 -- At or past the end it gives no row and the same place.
 -- Assumes nothing.
+use mathlib.Core.Path.{_≡_}
 use mathlib.Core.List.{List, [], _∷_}
 use mathlib.Core.Option.{Option, none, some}
 use Prim.Native.Nat.{ℕ, zero, suc, _+_, min}
 use lib.ListN.{length, drop}
+use denote.Ref.{now}
 use Rattle.feed.specs.declared.NextRow.{NextRow}
 use Rattle.feed.specs.declared.NextRow.the-variants.{Row, End}
 use Rattle.feed.specs.declared.RowPulled.{RowPulled}
+use Rattle.feed.specs.declared.Reader.{Reader}
 use Rattle.feed.specs.Rows.{rowsIn}
 use Rattle.feed.specs.Reading.{Reading, readRow, readingOf}
 
@@ -45,3 +48,8 @@ nextReading End = none
 
 abbrev pub pullGave : RowPulled → Pulled
 pullGave r = record { reading = nextReading (r .row); next = r .next }
+
+-- Rule 4.10: what a pull of a reader gives and leaves. The reader has the same feed, and the next place.
+pub record PulledBy (was : Reader) (row : NextRow) (is : Reader) : Type 0 where
+  pub gave : pullGave (record { row = row; next = is .place }) ≡ pull (now (was .feed)) (was .place)
+  pub same-feed : is .feed ≡ was .feed
