@@ -9,6 +9,8 @@ pub mod Splitting
 pub mod Pulling
 mod Taking
 mod Filling
+mod Tallying
+mod Lending
 pub mod Outcome
 pub mod Settled
 pub mod PulledRows
