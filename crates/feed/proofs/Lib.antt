@@ -15,3 +15,4 @@ pub mod Outcome
 pub mod Settled
 pub mod PulledRows
 pub mod Promise
+pub mod TallyPromise

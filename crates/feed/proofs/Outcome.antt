@@ -49,13 +49,16 @@ module _ (feed : List ℕ) (l : ImportLent) where
     tally-long tally = outcome-done (importChecks feed l) (λ n. tally) _ long ∙ sym (ap (λ o. o .counts) import-long)
 
   -- the number says which of the two it was
-  pub done-is-accepted : import feed l .number ≡ done → import feed l ≡ importAccepted (listRoom (l .keys) (l .hops)) feed l
-  done-is-accepted e = go (decided (ltb (length (l .report)) (length (rowsIn feed))))
+  pub done-is-long : import feed l .number ≡ done → length (rowsIn feed) ≤ length (l .report)
+  done-is-long e = go (decided (ltb (length (l .report)) (length (rowsIn feed))))
     where
       go : (ltb (length (l .report)) (length (rowsIn feed)) ≡ true) ⊎ (ltb (length (l .report)) (length (rowsIn feed)) ≡ false)
-          → import feed l ≡ importAccepted (listRoom (l .keys) (l .hops)) feed l
+          → length (rowsIn feed) ≤ length (l .report)
       go (inl t) = absurd (omega (arith, ap (λ o. o .number) (import-short (ltb-true _ _ t))))
-      go (inr t) = import-long (ltb-false _ _ t)
+      go (inr t) = ltb-false _ _ t
+
+  pub done-is-accepted : import feed l .number ≡ done → import feed l ≡ importAccepted (listRoom (l .keys) (l .hops)) feed l
+  done-is-accepted e = import-long (done-is-long e)
 
   pub refused-is-short : import feed l .number ≡ reportShort → length (l .report) < length (rowsIn feed)
   refused-is-short e = go (decided (ltb (length (l .report)) (length (rowsIn feed))))

@@ -1,4 +1,5 @@
--- An import, a row's reading and a pull are settled: two outcomes that keep the promise for one input are the same.
+-- An import, with and without a lent tally, a row's reading and a pull are settled: two outcomes that keep the promise for one input are
+-- the same.
 -- Assumes nothing.
 use mathlib.Core.Path.{_≡_, refl, sym, ap, _∙_}
 use mathlib.Core.Bool.{cond}
@@ -20,10 +21,10 @@ use Rattle.feed.specs.declared.RowPulled.{RowPulled}
 use Rattle.feed.specs.declared.Reader.{Reader}
 use Rattle.feed.specs.RowNumber.{rowShape, rowRange}
 use Rattle.feed.specs.Reading.{Reading, good, bad, readRow, readingOf}
-use Rattle.feed.specs.Import.{ImportLent, import, endNumber, importGave}
+use Rattle.feed.specs.Import.{ImportLent, import, endNumber, importGave, TallyGave}
 use Rattle.feed.specs.Pull.{pull, nextReading, pullGave, PulledBy}
 
-same-end : (e e′ : ImportEnd) → endNumber e ≡ endNumber e′ → e ≡ e′
+pub same-end : (e e′ : ImportEnd) → endNumber e ≡ endNumber e′ → e ≡ e′
 same-end Done Done n = refl
 same-end Done ReportShort n = absurd (omega arith)
 same-end ReportShort Done n = absurd (omega arith)
@@ -46,6 +47,17 @@ module _ {r r′ : Imported} {k k′ h h′ p p′ : List ℕ} where
   pub import-settled : (feed : List ℕ) (l : ImportLent)
       → importGave r k h p ≡ import feed l → importGave r′ k′ h′ p′ ≡ import feed l → (r ≡ r′) × (k ≡ k′) × (h ≡ h′) × (p ≡ p′)
   import-settled feed l e e′ = gave-one (e ∙ sym e′)
+
+-- an import with a lent tally
+pub tally-settled : (feed : List ℕ) (l : ImportLent) (tally : Counts) {r r′ : ImportEnd} {k k′ h h′ p p′ : List ℕ} {t t′ : Counts}
+    → TallyGave feed l tally r k h p t → TallyGave feed l tally r′ k′ h′ p′ t′ → (r ≡ r′) × (k ≡ k′) × (h ≡ h′) × (p ≡ p′) × (t ≡ t′)
+tally-settled feed l tally {r} {r′} g g′ = (
+  same-end r r′ (g .number ∙ sym (g′ .number)),
+  g .keys-left ∙ sym (g′ .keys-left),
+  g .hops-left ∙ sym (g′ .hops-left),
+  g .report-left ∙ sym (g′ .report-left),
+  g .tally-left ∙ sym (g′ .tally-left),
+)
 
 -- the answer that a reading came from
 answerOf : Reading → RowRead
