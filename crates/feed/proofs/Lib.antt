@@ -6,8 +6,13 @@ mod Fields
 mod Judging
 mod RowParse
 pub mod Splitting
+pub mod Pulling
 mod Taking
 mod Filling
+mod Tallying
+mod Lending
 pub mod Outcome
 pub mod Settled
+pub mod PulledRows
 pub mod Promise
+pub mod TallyPromise
