@@ -30,5 +30,18 @@ splitting c_split;
 typedef uint64_t building(size_t count, const uint64_t *keys, size_t keys_length, const uint16_t *labels, size_t labels_length,
                           uint32_t *starts, size_t starts_length, uint16_t *run_labels, size_t run_labels_length);
 building c_build_half;
+typedef struct whelk_edit announcing(uint32_t network, uint32_t length, uint16_t hop, size_t count, uint64_t *keys, size_t keys_length,
+                                     uint16_t *hops, size_t hops_length, size_t runs, uint32_t *starts, size_t starts_length,
+                                     uint16_t *run_hops, size_t run_hops_length);
+announcing c_announce;
+typedef struct whelk_edit withdrawing(uint32_t network, uint32_t length, size_t count, uint64_t *keys, size_t keys_length, uint16_t *hops,
+                                      size_t hops_length, size_t runs, uint32_t *starts, size_t starts_length, uint16_t *run_hops,
+                                      size_t run_hops_length);
+withdrawing c_withdraw;
+
+/* The check with which an edit begins, by itself: 0, 11 or 14. And an edit without it, of a prefix that is one; hop 0 withdraws. */
+size_t c_pair_check(size_t count, const uint64_t *keys, size_t keys_length, const uint16_t *hops, size_t hops_length, size_t runs,
+                    const uint32_t *starts, size_t starts_length, const uint16_t *run_hops, size_t run_hops_length);
+announcing c_edit_agreed;
 
 #endif

@@ -15,8 +15,7 @@
 extern "C" {
 #endif
 
-/* What became of a call. A call with another number than 0 is refused: it writes nothing, and whatever else it returns is 0. The calls below
-   return 0, 11 to 14 or 17 to 19; the other numbers are for calls to come. */
+/* What became of a call. A call with another number than 0 is refused: it writes nothing, and whatever else it returns is 0. */
 enum whelk_number {
     WHELK_DONE = 0,           /* the call is done */
     WHELK_ILL_FORMED = 11,    /* the list or the half is ill-formed, or there are more runs than were lent; in a run lookup, no runs too */
@@ -140,6 +139,41 @@ struct whelk_packed whelk_pack(uint16_t q, size_t count, const uint64_t *keys, s
    0 with hop 0 says that nothing matches. */
 uint32_t whelk_packed_lookup(uint32_t width, const uint16_t *words, size_t words_length, const uint16_t *bases, size_t bases_length,
                              const uint16_t *hops, size_t hops_length, uint32_t address);
+
+/* What an edit returns: its number, how many addresses have another hop than before, and the new counts of rows and of runs. The changed
+   number is 4,294,967,296 at the most. */
+struct whelk_edit {
+    size_t number;
+    uint64_t changed;
+    size_t count;
+    size_t runs;
+};
+
+/* Announces one route: a prefix that isn't listed gets a row with the hop, and a listed one's row gets the hop. The run table follows.
+   The prefix is network/length. The list comes with its run table as a build or an edit left it, the first `runs` runs of starts and
+   run_hops. Both are checked, which goes through all of the list.
+   keys and hops get the edited list, and starts and run_hops its run table, in each slot below their counts what a build would give.
+   Where a count is smaller than before, the slots that only the old one reached hold 0. Slots past both counts stay as they were.
+   Lend count + 1 slots in keys and hops, and 2 x count + 3 in starts and run_hops; that is always enough. A new hop can make many runs
+   at once: rows inside the prefix that had the hop it had show as runs of their own.
+   Returns number 0, the changed number and both counts; or 15 if the length is above 32, a bit of the network beyond the length is 1 or
+   the hop is 0, 11 if the list is ill-formed or `runs` is above one of the lengths or WHELK_TOP_RUNS, 14 if the run table is another
+   than the list's, or 13 if the edited list or its run table is longer than what was lent, or the list longer than WHELK_TOP_ROWS; where
+   more than one fits, the first. To announce a listed route with the hop that it has is 0, with 0 changed. */
+struct whelk_edit whelk_announce(uint32_t network, uint32_t length, uint16_t hop, size_t count, uint64_t *keys, size_t keys_length,
+                                 uint16_t *hops, size_t hops_length, size_t runs, uint32_t *starts, size_t starts_length,
+                                 uint16_t *run_hops, size_t run_hops_length);
+
+/* Withdraws one route: the row of the prefix network/length goes out of the list, and the run table follows. What is handed in, checked
+   and left is as in an announcement.
+   Lend count slots in keys and hops, and 2 x count + 1 in starts and run_hops; that is always enough. There can be more runs than
+   before, and many more: rows inside the prefix or beside it that have its hop show as runs of their own.
+   Returns number 0, the changed number and both counts; or 15 if the length is above 32 or a bit of the network beyond the length is 1,
+   11 if the list is ill-formed or `runs` is above one of the lengths or WHELK_TOP_RUNS, 14 if the run table is another than the list's,
+   16 if the prefix isn't listed, or 13 if the new run table is longer than what was lent; where more than one fits, the first. */
+struct whelk_edit whelk_withdraw(uint32_t network, uint32_t length, size_t count, uint64_t *keys, size_t keys_length, uint16_t *hops,
+                                 size_t hops_length, size_t runs, uint32_t *starts, size_t starts_length, uint16_t *run_hops,
+                                 size_t run_hops_length);
 
 /* A split makes two halves of a list, for two cores that each look up in one. A half is a list with labels in place of hops, and label 0 is
    no fault; all else that makes a list ill-formed makes a half so. The first half is the list's first k rows: hand in count k with the list's

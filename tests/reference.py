@@ -1,7 +1,7 @@
 #!/usr/bin/env python3
-"""A reference for the tests: the rules for feeds, plain lookup, run tables, packed segments, splits, a list's text and the program, in Python's
-standard library. It was written from the rules alone, all but packed segments and the text by hands that had seen none of the code it checks;
-made to be read against docs/RULES.md, not to be quick.
+"""A reference for the tests: the rules for feeds, plain lookup, run tables, packed segments, edits, splits, a list's text and the program, in
+Python's standard library. It was written from the rules alone, all but packed segments, edits and the text by hands that had seen none of the
+code it checks; made to be read against docs/RULES.md, not to be quick.
 
 A prefix is a pair (network, length), a route a triple (network, length, hop). As a program it reads a feed from standard input and writes
 what the program `whelk` has to write.
@@ -15,6 +15,7 @@ TAKEN, SHAPE, RANGE, HOST_BITS, REPEAT, NO_ROOM = range(6)
 
 SPACE = 2 ** 32          # an address is a number below this
 TOP_ROOM = 1_048_576     # the most rows that any list may hold
+TOP_RUNS = 2_097_153     # the most runs that any run table may have
 PROGRAM_BYTES = 16_384   # the most bytes that the program reads
 PROGRAM_ROOM = 1_024     # the program's room for rows
 
@@ -126,6 +127,44 @@ def packed_lookup(width, words, bases, hops, address):
         return 19, 0
     place = bases[word] + f"{words[word]:016b}"[:bit + 1].count("1") - 1
     return (0, hops[place]) if 0 <= place < len(hops) else (19, 0)
+
+
+def well_formed(routes, room):
+    """Whether a list is one that calls take (2.11)."""
+    prefixes = all(length <= 32 and network < SPACE and network % size_of(length) == 0 for network, length, _ in routes)
+    ordered = all(one[:2] < other[:2] for one, other in zip(routes, routes[1:]))
+    return len(routes) <= min(room, TOP_ROOM) and prefixes and ordered and all(hop != 0 for _, _, hop in routes)
+
+
+def changed_between(before, after):
+    """How many addresses have another plain answer after than before (10.9). Between two neighbours of `places` all of them have, or none."""
+    places = {0, SPACE}
+    for network, length, _ in before + after:
+        places.update((network, network + size_of(length)))
+    places = sorted(places)
+    return sum(end - start for start, end in zip(places, places[1:]) if plain(before, start) != plain(after, start))
+
+
+def edit(routes, runs, network, length, hop, room, run_room):
+    """The number of an edit, the changed number, and the list and the run table after it; hop None withdraws (10.1 to 10.9).
+
+    Everything is made anew: the list of its other rows and the announced one, and the run table of that list.
+    """
+    refused = 0, routes, runs
+    if length > 32 or network % size_of(length) != 0 or hop == 0:
+        return 15, *refused
+    if not well_formed(routes, room) or len(runs) > min(run_room, TOP_RUNS):
+        return 11, *refused
+    if runs != runs_of(routes):
+        return 14, *refused
+    others = [route for route in routes if route[:2] != (network, length)]
+    if hop is None and others == routes:
+        return 16, *refused
+    after = others if hop is None else sorted(others + [(network, length, hop)])
+    runs_after = runs_of(after)
+    if len(after) > min(room, TOP_ROOM) or len(runs_after) > min(run_room, TOP_RUNS):
+        return 13, *refused
+    return 0, changed_between(routes, after), after, runs_after
 
 
 def split(routes, k, room):

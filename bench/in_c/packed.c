@@ -1,7 +1,7 @@
 /* The same packed lookup and packing as a C programmer writes them. Packing is there twice: by blocks, one after the other as ours goes, and
    by the runs of the segment alone, each of which sets one bit. */
 #include "../in_c.h"
-#include "list.h"
+#include "pair.h"
 
 #include <string.h>
 
@@ -16,29 +16,6 @@ uint32_t c_packed_lookup(uint32_t width, const uint16_t *words, size_t words_len
     past = (size_t)bases[at] + (size_t)__builtin_popcount(words[at] >> (15 - block % 16));
     if (past == 0 || past > hops_length) return 65536 * 19;
     return hops[past - 1];
-}
-
-/* Whether runs are those of the list: the sweep of build.c, which compares where that writes. */
-static int its_runs(size_t count, const uint64_t *keys, const uint16_t *hops, size_t runs, const uint32_t *starts, const uint16_t *run_hops)
-{
-    uint64_t ends[33], at = 0;
-    uint16_t labels[33];
-    size_t depth = 0, row = 0, run = 0;
-    for (;;) {
-        while (depth > 0 && ends[depth - 1] <= at) depth--;
-        while (row < count && keys[row] >> 6 == at) {
-            ends[depth] = at + (1ull << (32 - (keys[row] & 63)));
-            labels[depth++] = hops[row++];
-        }
-        uint16_t hop = depth > 0 ? labels[depth - 1] : 0;
-        if (run == 0 || run_hops[run - 1] != hop) {
-            if (run == runs || starts[run] != at || run_hops[run] != hop) return 0;
-            run++;
-        }
-        uint64_t opens = row < count ? keys[row] >> 6 : 1ull << 32, closes = depth > 0 ? ends[depth - 1] : 1ull << 32;
-        at = opens < closes ? opens : closes;
-        if (at == 1ull << 32) return run == runs;
-    }
 }
 
 /* The width of a segment: its keys are found by halving. */
@@ -77,13 +54,11 @@ struct whelk_packed c_pack(uint16_t q, size_t count, const uint64_t *keys, size_
                            uint16_t *words, size_t words_length, uint16_t *bases, size_t bases_length, uint16_t *packed_hops,
                            size_t packed_hops_length)
 {
-    struct whelk_packed p = {11, 0, 0, 0};
+    struct whelk_packed p = {0, 0, 0, 0};
     size_t width, n, size, t, run, kept, first;
     uint64_t at;
-    if (!list_ok(count, keys, keys_length, hops, hops_length)) return p;
-    if (runs > starts_length || runs > run_hops_length || runs > 2097153) return p;
-    p.number = 14;
-    if (!its_runs(count, keys, hops, runs, starts, run_hops)) return p;
+    p.number = pair_number(count, keys, keys_length, hops, hops_length, runs, starts, starts_length, run_hops, run_hops_length);
+    if (p.number != 0) return p;
     width = width_of(q, count, keys);
     n = (size_t)1 << width;
     size = 65536 >> width;
@@ -125,13 +100,11 @@ struct whelk_packed c_pack_by_runs(uint16_t q, size_t count, const uint64_t *key
                                    size_t run_hops_length, uint16_t *words, size_t words_length, uint16_t *bases, size_t bases_length,
                                    uint16_t *packed_hops, size_t packed_hops_length)
 {
-    struct whelk_packed p = {11, 0, 0, 0};
+    struct whelk_packed p = {0, 0, 0, 0};
     size_t width, n, i, run, end, ones;
     uint64_t base = (uint64_t)q << 16;
-    if (!list_ok(count, keys, keys_length, hops, hops_length)) return p;
-    if (runs > starts_length || runs > run_hops_length || runs > 2097153) return p;
-    p.number = 14;
-    if (!its_runs(count, keys, hops, runs, starts, run_hops)) return p;
+    p.number = pair_number(count, keys, keys_length, hops, hops_length, runs, starts, starts_length, run_hops, run_hops_length);
+    if (p.number != 0) return p;
     width = width_of(q, count, keys);
     n = (((size_t)1 << width) + 15) / 16;
     run = first_run(q, runs, starts);

@@ -4,7 +4,7 @@ import pathlib
 import sys
 
 sys.path.insert(0, str(pathlib.Path(__file__).resolve().parent.parent))
-from reference import counts_of, dotted, import_feed, packed, packed_lookup, plain, runs_of
+from reference import counts_of, dotted, edit, import_feed, packed, packed_lookup, plain, runs_of
 
 PLAIN_ANSWERS = """\
 # Plain answers of list A
@@ -99,6 +99,31 @@ PACKINGS = [
     ("65535 of the empty list", [], 65_535, "255.255.255.254", 1, 1, (0, 1, 1)),
 ]
 
+PARENT = ["10.0.0.0/8 1", "10.0.0.0/10 2", "10.64.0.0/10 2", "10.128.0.0/10 2"]
+LAST = ["128.0.0.0/1 5", "255.255.255.255/32 6"]
+
+# Each edit: its name, the rows of its list, the prefix, the hop or None for a withdrawal, how many rows and how many runs are lent, and what
+# document 01 or docs/RULES.md says of it, or the name: the changed number and the count of runs, or the number of a refusal.
+EDITS = [
+    ("200.27.64.0/18 withdrawn from A", LIST_A, "200.27.64.0", 18, None, 8, 11, (12_288, 9)),
+    ("200.27.224.0/19 hop 1 announced to A", LIST_A, "200.27.224.0", 19, 1, 9, 12, (4_096, 11)),
+    ("200.27.224.0/19 hop 3 announced to A", LIST_A, "200.27.224.0", 19, 3, 9, 12, (0, 10)),
+    ("200.27.64.0/18 announced to A with its own hop, in full slices", LIST_A, "200.27.64.0", 18, 1, 7, 10, (0, 10)),
+    ("0.0.0.0/0 hop 4 announced to the empty list", [], "0.0.0.0", 0, 4, 2, 2, (4_294_967_296, 1)),
+    ("0.0.0.0/0 withdrawn again", ["0.0.0.0/0 4"], "0.0.0.0", 0, None, 2, 2, (4_294_967_296, 1)),
+    ("a withdrawal that needs two more runs", PARENT, "10.64.0.0", 10, None, 4, 6, (4_194_304, 6)),
+    ("the same in one run less", PARENT, "10.64.0.0", 10, None, 4, 5, 13),
+    ("255.0.0.0/8 hop 5 announced under 0.0.0.0/0 hop 4", ["0.0.0.0/0 4"], "255.0.0.0", 8, 5, 2, 3, (16_777_216, 2)),
+    ("128.0.0.0/1 withdrawn from around 255.255.255.255/32", LAST, "128.0.0.0", 1, None, 2, 3, (2_147_483_647, 2)),
+    ("10.0.0.0/8 hop 1 announced around 10.64.0.0/10 hop 2", ["10.64.0.0/10 2"], "10.0.0.0", 8, 1, 2, 5, (12_582_912, 5)),
+    ("200.27.224.0/19 hop 1 announced to A in one row less", LIST_A, "200.27.224.0", 19, 1, 7, 12, 13),
+    ("200.27.224.0/19 hop 1 announced to A in one run less", LIST_A, "200.27.224.0", 19, 1, 8, 10, 13),
+    ("200.27.224.0/19 withdrawn from A", LIST_A, "200.27.224.0", 19, None, 7, 10, 16),
+    ("200.27.224.0/18 withdrawn from A: a host bit", LIST_A, "200.27.224.0", 18, None, 7, 10, 15),
+    ("10.0.0.0/72 withdrawn: a length above 32", ["10.0.0.0/8 7"], "10.0.0.0", 72, None, 1, 3, 15),
+    ("10.0.0.0/8 announced with hop 0", ["10.0.0.0/8 7"], "10.0.0.0", 8, 0, 1, 3, 15),
+]
+
 
 def line(name, values):
     print(" ".join([name] + [str(value) for value in values]))
@@ -134,6 +159,27 @@ def show_build(name, rows, room, figure):
         print(slot)
 
 
+def show_edit(name, rows, network, length, hop, room, run_room, figure):
+    """An edit in slots that hold 9.9.9.9/32 for a key, 9.9.9.9 for a start and 9 for a hop, past the list and its run table."""
+    _, routes = import_feed("".join(row + "\n" for row in rows).encode(), len(rows))
+    runs = runs_of(routes)
+    network = int.from_bytes(bytes(int(octet) for octet in network.split(".")), "big")
+    number, changed, after, runs_after = edit(routes, runs, network, length, hop, room, run_room)
+    assert figure == (number or (changed, len(runs_after)))
+    print("# Edit:", name)
+    line("number", [number])
+    line("changed", [changed])
+    line("rows", [0 if number else len(after)])
+    line("runs", [0 if number else len(runs_after)])
+    keys = [f"{dotted(network)}/{length}" for network, length, _ in after] + ["0.0.0.0/0"] * (len(routes) - len(after))
+    hops = [hop for _, _, hop in after] + [0] * (len(routes) - len(after))
+    line("keys", keys + ["9.9.9.9/32"] * (room - len(keys)))
+    line("hops", hops + [9] * (room - len(hops)))
+    slots = runs_after + [(0, 0)] * (len(runs) - len(runs_after))
+    for start, hop in slots + [(0x09090909, 9)] * (run_room - len(slots)):
+        print(dotted(start), hop)
+
+
 def show_packing(name, rows, q, between, room, hop_room, figure):
     """A packing into slots that hold 9, of which 16 are shown, and three answers of what it leaves."""
     _, routes = import_feed("".join(row + "\n" for row in rows).encode(), len(rows))
@@ -164,3 +210,5 @@ for case in BUILDS:
     show_build(*case)
 for case in PACKINGS:
     show_packing(*case)
+for case in EDITS:
+    show_edit(*case)

@@ -1,4 +1,4 @@
-/* The C interface against docs/RULES.md, worked out by hand: import, plain lookup, run lookup on slices and on bytes, build. */
+/* The C interface against docs/RULES.md, worked out by hand: import, plain lookup, run lookup on slices and on bytes, build, edits. */
 #include <string.h>
 
 #include "testing.h"
@@ -95,11 +95,75 @@ static void builds(void)
     check("an ill-formed list is 11", whelk_build(2, keys, 7, five_hop, 1, starts, 16, runs, 16) == (uint64_t)11 << 32);
 }
 
+static int gave(struct whelk_edit e, size_t number, uint64_t changed, size_t count, size_t runs)
+{
+    return e.number == number && e.changed == changed && e.count == count && e.runs == runs;
+}
+
+/* Rules 10.1 to 10.11, over 10.0.0.0/8 with 10.64.0.0/10 inside. The lengths are those of keys, hops, starts and hops of runs. */
+static uint64_t edit_keys[3];
+static uint16_t edit_hops[3], edit_run_hops[6];
+static uint32_t edit_starts[6];
+
+static int announces(uint32_t network, uint32_t length, uint16_t hop, size_t count, size_t runs, const size_t lengths[4], size_t number,
+                     uint64_t changed, size_t rows, size_t runs_then)
+{
+    return gave(whelk_announce(network, length, hop, count, edit_keys, lengths[0], edit_hops, lengths[1], runs, edit_starts, lengths[2],
+                               edit_run_hops, lengths[3]),
+                number, changed, rows, runs_then);
+}
+
+static int withdraws(uint32_t network, uint32_t length, size_t count, size_t runs, const size_t lengths[4], size_t number,
+                     uint64_t changed, size_t rows, size_t runs_then)
+{
+    return gave(whelk_withdraw(network, length, count, edit_keys, lengths[0], edit_hops, lengths[1], runs, edit_starts, lengths[2],
+                               edit_run_hops, lengths[3]),
+                number, changed, rows, runs_then);
+}
+
+static int left(const uint64_t *keys, const uint16_t *hops, const uint32_t *starts, const uint16_t *run_hops)
+{
+    return memcmp(edit_keys, keys, sizeof edit_keys) == 0 && memcmp(edit_hops, hops, sizeof edit_hops) == 0 &&
+           memcmp(edit_starts, starts, sizeof edit_starts) == 0 && memcmp(edit_run_hops, run_hops, sizeof edit_run_hops) == 0;
+}
+
+static void edits(void)
+{
+    const uint64_t outer = key(10, 0, 0, 0, 8), inner = key(10, 64, 0, 0, 10);
+    const uint64_t keys[3][3] = {{outer, 77, 77}, {outer, inner, 77}, {outer, 0, 77}};
+    const uint16_t hops[3][3] = {{1, 88, 88}, {1, 2, 88}, {1, 0, 88}};
+    const uint32_t starts[3][6] = {{0, 0x0a000000, 0x0b000000, 99, 99, 99},
+                                   {0, 0x0a000000, 0x0a400000, 0x0a800000, 0x0b000000, 99},
+                                   {0, 0x0a000000, 0x0b000000, 0, 0, 99}};
+    const uint16_t run_hops[3][6] = {{0, 1, 0, 66, 66, 66}, {0, 1, 2, 1, 0, 66}, {0, 1, 0, 0, 0, 66}};
+    const size_t all[4] = {3, 3, 6, 6}, full[4] = {2, 2, 5, 5};
+    const size_t few_keys[4] = {2, 3, 6, 6}, few_hops[4] = {3, 1, 6, 6}, few_starts[4] = {3, 3, 5, 6};
+    memcpy(edit_keys, keys[0], sizeof edit_keys);
+    memcpy(edit_hops, hops[0], sizeof edit_hops);
+    memcpy(edit_starts, starts[0], sizeof edit_starts);
+    memcpy(edit_run_hops, run_hops[0], sizeof edit_run_hops);
+    check("announce: a row and two runs more", announces(0x0a400000, 10, 2, 1, 3, all, 0, 1 << 22, 2, 5));
+    check("announce: the list and the run table", left(keys[1], hops[1], starts[1], run_hops[1]));
+    check("announce: its own hop", announces(0x0a400000, 10, 2, 2, 5, full, 0, 0, 2, 5));
+    check("no prefix is 15", announces(0x0a400000, 9, 2, 2, 5, all, WHELK_BAD_EDIT, 0, 0, 0));
+    check("length 72 is 15", withdraws(0x0a000000, 72, 2, 5, all, WHELK_BAD_EDIT, 0, 0, 0));
+    check("hop 0 is 15", announces(0x0a400000, 10, 0, 2, 5, all, WHELK_BAD_EDIT, 0, 0, 0));
+    check("a count beyond one slice is 11", withdraws(0x0a400000, 10, 2, 5, few_hops, WHELK_ILL_FORMED, 0, 0, 0));
+    check("four of the five runs are 14", withdraws(0x0a400000, 10, 2, 4, all, WHELK_NOT_ITS_RUNS, 0, 0, 0));
+    check("what isn't listed is 16", withdraws(0x0a400000, 11, 2, 5, all, WHELK_NOT_LISTED, 0, 0, 0));
+    check("no room for a row is 13", announces(0, 0, 7, 2, 5, few_keys, WHELK_NO_ROOM, 0, 0, 0));
+    check("no room for a run is 13", announces(0, 32, 7, 2, 5, few_starts, WHELK_NO_ROOM, 0, 0, 0));
+    check("its own hop and refusals wrote nothing", left(keys[1], hops[1], starts[1], run_hops[1]));
+    check("withdraw: a row and two runs less", withdraws(0x0a400000, 10, 2, 5, full, 0, 1 << 22, 1, 3));
+    check("withdraw: what it freed holds 0", left(keys[2], hops[2], starts[2], run_hops[2]));
+}
+
 int main(void)
 {
     imports();
     many();
     lookups();
     builds();
+    edits();
     return finish();
 }

@@ -12,6 +12,10 @@ class Packed(Structure):
     _fields_ = [(name, c_size_t) for name in ("number", "width", "words", "hops")]
 
 
+class Edit(Structure):
+    _fields_ = [("number", c_size_t), ("changed", c_uint64), ("count", c_size_t), ("runs", c_size_t)]
+
+
 library = CDLL(sys.argv[1])
 SLICE = (c_void_p, c_size_t)
 for name, result, arguments in (
@@ -23,6 +27,8 @@ for name, result, arguments in (
     ("whelk_run_lookup", c_uint32, (*SLICE, c_uint32)),
     ("whelk_pack", Packed, (c_uint16, c_size_t, *SLICE, *SLICE, c_size_t, *(5 * SLICE))),
     ("whelk_packed_lookup", c_uint32, (c_uint32, *(3 * SLICE), c_uint32)),
+    ("whelk_announce", Edit, (c_uint32, c_uint32, c_uint16, c_size_t, *SLICE, *SLICE, c_size_t, *SLICE, *SLICE)),
+    ("whelk_withdraw", Edit, (c_uint32, c_uint32, c_size_t, *SLICE, *SLICE, c_size_t, *SLICE, *SLICE)),
     ("whelk_split", c_uint64, (c_size_t, c_size_t, *(4 * SLICE))),
     ("whelk_half_lookup", c_uint32, (c_size_t, *SLICE, *SLICE, c_uint32)),
     ("whelk_build_half", c_uint64, (c_size_t, *(4 * SLICE))),
@@ -63,6 +69,25 @@ answers += [
     (library.whelk_packed_lookup(0, words, 1, bases, 1, packed_hops, 1, 0xA400001), 9),
     (library.whelk_packed_lookup(17, *lent(words, bases, packed_hops), 0), 65536 * 19),
     (library.whelk_pack(0xA40, 2, *lent(keys, hops), 4, *lent(starts, run_hops, words, bases, packed_hops)).number, 14),
+]
+
+
+def edited(edit):
+    """What an edit returned."""
+    return [getattr(edit, name) for name, _ in Edit._fields_]
+
+
+pair = lent(keys, hops)
+table = lent(starts, run_hops)
+answers += [
+    (edited(library.whelk_announce(0xA400000, 16, 7, 2, *pair, 5, *table)), [0, 65536, 2, 3]),
+    (list(zip(starts, run_hops))[:5], [(0, 0), (10 << 24, 7), (11 << 24, 0), (0, 0), (0, 0)]),
+    (edited(library.whelk_announce(0xA400000, 16, 0, 2, *pair, 3, *table)), [15, 0, 0, 0]),
+    (edited(library.whelk_withdraw(10 << 24, 8, 2, *pair, 3, *table)), [0, 2**24 - 65536, 1, 3]),
+    ([keys[0], hops[0], keys[1], hops[1]], [0xA400000 * 64 + 16, 7, 0, 0]),
+    (edited(library.whelk_withdraw(10 << 24, 8, 1, *pair, 3, *table)), [16, 0, 0, 0]),
+    (edited(library.whelk_announce(10 << 24, 8, 7, 1, *pair, 3, *table)), [0, 2**24 - 65536, 2, 3]),
+    (edited(library.whelk_announce(0xA400000, 16, 9, 2, *pair, 3, *table)), [0, 65536, 2, 5]),
 ]
 half_keys, labels, run_labels = (c_uint64 * 4)(9, 9, 9, 9), (c_uint16 * 4)(9, 9, 9, 9), (c_uint16 * 9)()
 answers += [(library.whelk_split(2, 2, *lent(keys, hops, half_keys, labels)), 18 * 2**32), (list(labels), [9, 9, 9, 9])]

@@ -1,5 +1,7 @@
-// The worked figures of rules 14.3, 14.4, 14.6, 14.7, 14.8 and 14.11, as far as they are plain answers, run tables and packed segments, and
-// corners of the import and of packing. tests/figures/expected.py makes what it has to write.
+// The worked figures of rules 14.3, 14.4, 14.6, 14.7, 14.8 and 14.11, as far as they are plain answers, run tables, packed segments and edits,
+// and corners of the import, of packing and of edits. tests/figures/expected.py makes what it has to write.
+mod edits;
+
 use feed::Counts;
 use feed::ImportEnd;
 use routes::Looked;
@@ -9,7 +11,7 @@ use segment::Packing;
 ghost use Prim.Native.Nat.{_≤_};
 
 // What stands in a key's slot that nothing has written: 9.9.9.9/32. In a hop's slot and in the report it is 9.
-const UNWRITTEN: u64 = 9701573216;
+pub const UNWRITTEN: u64 = 9701573216;
 
 // The plain answer at an address.
 fn plain(count: usize, keys: &[u64], hops: &[u16], a: u32) {
@@ -57,7 +59,7 @@ fn counts(number: u64, c: Counts) {
 }
 
 // The slots that an import leaves: those of its report, its keys or its hops.
-enum Column {
+pub enum Column {
     Report,
     Keys,
     Hops,
@@ -101,7 +103,7 @@ fn slot(column: Column, i: usize, report: &[u8], keys: &[u64], hops: &[u16]) {
 }
 
 // A column's name and its first `count` slots, on a line.
-fn show(name: &[u8], column: Column, count: usize, report: &[u8], keys: &[u64], hops: &[u16]) {
+pub fn show(name: &[u8], column: Column, count: usize, report: &[u8], keys: &[u64], hops: &[u16]) {
     print::text(name);
     let mut i = 0;
     while i < count {
@@ -577,4 +579,5 @@ fn main() {
     builds_of_a();
     builds_of_corners();
     packings();
+    edits::edits();
 }

@@ -1,4 +1,5 @@
 mod Carried
+mod EditCarried
 mod ImportCarried
 mod PackCarried
 pub mod Settled

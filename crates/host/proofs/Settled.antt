@@ -1,14 +1,16 @@
--- What C gets from an import, from a build, from a packing, from a list writer and from a split is settled: two outcomes that keep the promise for one input are the same,
--- in what is returned and in each lent slice. The lookups promise an equation.
+-- What C gets from an import, a build, a packing, an edit, a list writer and a split is settled: two outcomes that keep the promise for one
+-- input are the same, in what is returned and in each lent slice. The lookups promise an equation.
 -- Assumes nothing.
 use mathlib.Core.Path.{_≡_, sym, ap, _∙_}
 use mathlib.Core.List.{List}
 use Prim.Native.Nat.{ℕ}
 use Rattle.feed.specs.Import.{ImportLent, import}
 use Rattle.segment.specs.Pack.{PackOutcome}
+use Rattle.edit.specs.Edit.{Edited}
 use Rattle.host.specs.declared.WhelkCounts.{WhelkCounts}
 use Rattle.host.specs.declared.WhelkPacked.{WhelkPacked}
-use Rattle.host.specs.Exports.{hostImportGave, hostPackGave, BuildForC, buildGaveC, WriteForC, writeGaveC, SplitForC, splitGaveC}
+use Rattle.host.specs.declared.edits.WhelkEdit.{WhelkEdit}
+use Rattle.host.specs.Exports.{hostImportGave, hostPackGave, hostEditGave, BuildForC, buildGaveC, WriteForC, writeGaveC, SplitForC, splitGaveC}
 use Rattle.host.proofs.ImportCarried.{toC}
 
 -- what C gets from an import and the three slices at exit can be told from what they say
@@ -36,6 +38,17 @@ pub host-pack-settled : (o : PackOutcome) (r r′ : WhelkPacked) (w w′ b b′ 
     → hostPackGave r w b h ≡ o → hostPackGave r′ w′ b′ h′ ≡ o → (r ≡ r′) × (w ≡ w′) × (b ≡ b′) × (h ≡ h′)
 host-pack-settled o r r′ w w′ b b′ h h′ e e′ =
     let same = e ∙ sym e′ in (ap packed-of same, ap (λ x. x .words) same, ap (λ x. x .bases) same, ap (λ x. x .hops) same)
+
+-- what C gets from an edit's outcome
+abbrev edit-of : Edited → WhelkEdit
+edit-of o = record { number = o .number; changed = o .changed; count = o .count; runs = o .runs }
+
+-- both edits: what an announcement and a withdrawal promise is that what they give is one outcome
+pub host-edit-settled : (o : Edited) (r r′ : WhelkEdit) (k k′ h h′ s s′ n n′ : List ℕ)
+    → hostEditGave r k h s n ≡ o → hostEditGave r′ k′ h′ s′ n′ ≡ o → (r ≡ r′) × (k ≡ k′) × (h ≡ h′) × (s ≡ s′) × (n ≡ n′)
+host-edit-settled o r r′ k k′ h h′ s s′ n n′ e e′ =
+    let same = e ∙ sym e′ in
+    (ap edit-of same, ap (λ x. x .keys) same, ap (λ x. x .hops) same, ap (λ x. x .starts) same, ap (λ x. x .rhops) same)
 
 pub host-write-settled : (o : WriteForC) (r r′ : ℕ) (b b′ : List ℕ) → writeGaveC r b ≡ o → writeGaveC r′ b′ ≡ o → (r ≡ r′) × (b ≡ b′)
 host-write-settled o r r′ b b′ e e′ = let same = e ∙ sym e′ in (ap (λ (x : WriteForC). x .answer) same, ap (λ (x : WriteForC). x .buffer) same)

@@ -1,4 +1,5 @@
--- Rules 7.9 and 7.10: what the exports return to C. An import and a packing give a struct, and each other call puts its numbers into one.
+-- Rules 7.9 and 7.10: what the exports return to C. An import, a packing and an edit give a struct, and each other call puts its numbers
+-- into one.
 -- Assumes nothing.
 use mathlib.Core.List.{List, [], _∷_}
 use Prim.Native.Nat.{ℕ, _+_, _*_}
@@ -8,10 +9,12 @@ use Rattle.feed.specs.Import.{ImportOutcome}
 use Rattle.runs.specs.Build.{BuildOutcome}
 use Rattle.runs.specs.Lookup.{RunLookupOutcome}
 use Rattle.segment.specs.Pack.{PackOutcome}
+use Rattle.edit.specs.Edit.{Edited, editOutcome}
 use Rattle.split.specs.Split.{SplitOutcome}
 use Rattle.text.specs.Text.{WriteOutcome}
 use Rattle.host.specs.declared.WhelkCounts.{WhelkCounts}
 use Rattle.host.specs.declared.WhelkPacked.{WhelkPacked}
+use Rattle.host.specs.declared.edits.WhelkEdit.{WhelkEdit}
 
 -- Rule 4.5: the seven counts that C gets, all rows and then one for each row number.
 abbrev pub countsIn : WhelkCounts → Counts
@@ -36,6 +39,10 @@ hostPackGave w words bases hops = record {
   bases = bases;
   hops = hops;
 }
+
+-- Rule 7.10: what C gets from an edit and the four slices at exit, as an edit's outcome.
+abbrev pub hostEditGave : WhelkEdit → List ℕ → List ℕ → List ℕ → List ℕ → Edited
+hostEditGave w keys hops starts rhops = editOutcome (w .number) (w .changed) (w .count) (w .runs) keys hops starts rhops
 
 -- Rules 7.9 and 7.10: a lookup gives C hop + 65,536 × number.
 unfoldable pub lookupForC : LookupOutcome → ℕ
