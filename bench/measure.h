@@ -57,15 +57,30 @@ static inline uint64_t written(void *memory, size_t length)
 /* Work: `times` pieces, and a sum of what came out. */
 typedef uint64_t work(void);
 
-/* Round by round, ours and then C's; the row has the ratio of their median times, each one's time for a piece, and how our time for a piece
-   has grown from the row of the same work and inputs before it. */
-static inline void row(const char *what, unsigned long size, const char *inputs, work *ours, work *in_c, unsigned long times)
+/* A row: what a piece takes on each side, in seconds, their ratio, and how our time has grown from the row of the same work and inputs
+   before it. */
+static inline void print_row(const char *what, unsigned long size, const char *inputs, double ours, double in_c)
 {
     static struct {
         const char *what, *inputs;
         double time;
     } last[8];
-    double a[ROUNDS], b[ROUNDS], piece, piece_in_c;
+    int i;
+    printf("%-22s %9lu  %-9s%6.2f %10.1f ns %10.1f ns", what, size, inputs, ours / in_c, 1e9 * ours, 1e9 * in_c);
+    for (i = 0; i < 8 && last[i].what && (last[i].what != what || last[i].inputs != inputs); i++) {}
+    if (i < 8) {
+        if (last[i].what) printf("  x %.2f", ours / last[i].time);
+        last[i].what = what;
+        last[i].inputs = inputs;
+        last[i].time = ours;
+    }
+    printf("\n");
+}
+
+/* Round by round, ours and then C's; the row has their median times. */
+static inline void row(const char *what, unsigned long size, const char *inputs, work *ours, work *in_c, unsigned long times)
+{
+    double a[ROUNDS], b[ROUNDS];
     int i;
     agreeing = 1;
     ours();
@@ -82,17 +97,7 @@ static inline void row(const char *what, unsigned long size, const char *inputs,
         a[i] = t1 - t0;
         b[i] = seconds() - t1;
     }
-    piece = 1e9 * median(a) / (double)times;
-    piece_in_c = 1e9 * median(b) / (double)times;
-    printf("%-22s %9lu  %-9s%6.2f %10.1f ns %10.1f ns", what, size, inputs, piece / piece_in_c, piece, piece_in_c);
-    for (i = 0; i < 8 && last[i].what && (last[i].what != what || last[i].inputs != inputs); i++) {}
-    if (i < 8) {
-        if (last[i].what) printf("  x %.2f", piece / last[i].time);
-        last[i].what = what;
-        last[i].inputs = inputs;
-        last[i].time = piece;
-    }
-    printf("\n");
+    print_row(what, size, inputs, median(a) / (double)times, median(b) / (double)times);
 }
 
 #endif
