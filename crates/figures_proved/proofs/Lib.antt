@@ -1,2 +1,1 @@
 mod Figures
-mod Orders

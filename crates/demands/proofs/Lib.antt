@@ -1,0 +1,5 @@
+pub mod Orders
+pub mod First
+pub mod One
+pub mod Two
+pub mod Three

@@ -1,0 +1,118 @@
+-- Demand 1: any feed, list, table or address may be handed to any entry. A refused call says which fault it met first, by number, and
+-- changes no lent memory. Import carries on past a bad row: every row gets its number, and rows in = rows taken + rows refused, reason by
+-- reason. Each answer here is any that keeps its entry's contract; an entry that isn't here refuses nothing.
+-- Its definitions: `firstFault`, `checkOrder` (ground, `Numbers`), and of each entry its outcome, its checks and its `Gave`.
+-- Assumes nothing.
+use mathlib.Core.Path.{_≡_, refl}
+use mathlib.Core.Bool.{Bool}
+use mathlib.Core.List.{List}
+use Prim.Native.Nat.{ℕ, _+_}
+use lib.ListN.{length, take}
+use Rattle.ground.specs.Numbers.{firstFault, outcome, done}
+use Rattle.routes.specs.declared.Looked.{Looked}
+use Rattle.routes.specs.Row.{ListLent, listRoom}
+use Rattle.routes.specs.Lookup.{lookedUp, LookupOutcome, lookupGave, plainLookup, lookupChecks, halfLookup, halfChecks}
+use Rattle.feed.specs.declared.Counts.{Counts}
+use Rattle.feed.specs.declared.Imported.{Imported}
+use Rattle.feed.specs.declared.ImportEnd.{ImportEnd}
+use Rattle.feed.specs.declared.ImportEnd.the-variants.{Done, ReportShort}
+use Rattle.feed.specs.Rows.{rowsIn}
+use Rattle.feed.specs.RowNumber.{rowsWith, rowTaken, rowShape, rowRange, rowHostBits, rowRepeat, rowNoRoom}
+use Rattle.feed.specs.Import.{ImportLent, ImportOutcome, importGave, import, importChecks, importRefused, importAccepted, rowNumbers, TallyGave}
+use Rattle.feed.proofs.Promise.{rows-are-taken-and-refused, rows-are-all-rows, report-has-numbers}
+use Rattle.feed.proofs.TallyPromise.{tally-untouched}
+use Rattle.runs.specs.declared.Built.{Built}
+use Rattle.runs.specs.declared.Paired.{Paired}
+use Rattle.runs.specs.declared.Probed.{Probed}
+use Rattle.runs.specs.Table.{RunsLent}
+use Rattle.runs.specs.Build.{SlotsLent, BuildOutcome, built, buildGave, buildOf, buildChecks}
+use Rattle.runs.specs.Lookup.{RunLookupOutcome, probed, runLookupGave, runLookup, runChecks, bytesLookup, bytesChecks}
+use Rattle.runs.specs.Pair.{Pair, pairGave, pairCheck, pairChecks}
+use Rattle.text.specs.declared.Written.{Written}
+use Rattle.text.specs.Text.{WriteOutcome, wrote, writeGave, write, writeChecks}
+use Rattle.segment.specs.declared.Packing.{Packing}
+use Rattle.segment.specs.declared.PackedHop.{PackedHop}
+use Rattle.segment.specs.Pack.{PackLent, PackOutcome, packRefused, packGave, pack, packChecks}
+use Rattle.segment.specs.Lookup.{SegmentLent, packedGave, packedLookup, packedChecks}
+use Rattle.edit.specs.declared.Edit.{Edit}
+use Rattle.edit.specs.Edit.{Edited, editRefused, editGave, announce, announceChecks, withdraw, withdrawChecks}
+use Rattle.split.specs.declared.Parted.{Parted}
+use Rattle.split.specs.Split.{SplitLent, SplitOutcome, splitInto, splitGave, split, splitChecks}
+use Rattle.demands.proofs.Orders.{orders}
+use Rattle.demands.proofs.First.{First, first-of}
+
+-- the number of what a lookup over a list or a segment gives
+abbrev looked : LookupOutcome → ℕ
+looked o = o .number
+
+pub record One : Type 0 where
+  pub plain-lookup : (l : ListLent) (a : ℕ) (r : Looked) → lookupGave r ≡ plainLookup l a
+      → First looked (lookupChecks l) (λ n. lookedUp n 0) (lookupGave r)
+  pub half-lookup : (l : ListLent) (a : ℕ) (r : Looked) → lookupGave r ≡ halfLookup l a
+      → First looked (halfChecks l) (λ n. lookedUp n 0) (lookupGave r)
+  pub imports : (feed : List ℕ) (l : ImportLent) (r : Imported) (keys hops report : List ℕ) → importGave r keys hops report ≡ import feed l
+      → First (λ o. o .number) (importChecks feed l) (importRefused l) (importGave r keys hops report)
+  pub tally : (feed : List ℕ) (l : ImportLent) (tally : Counts) (r : ImportEnd) (keys hops report : List ℕ) (left : Counts)
+      → TallyGave feed l tally r keys hops report left → r ≡ ReportShort → left ≡ tally
+  pub builds : (half : Bool) (l : ListLent) (s : SlotsLent) (r : Built) (starts hops : List ℕ) → buildGave r starts hops ≡ buildOf half l s
+      → First (λ o. o .number) (buildChecks half l s) (λ n. built n 0 (s .starts) (s .hops)) (buildGave r starts hops)
+  pub pair-check : (p : Pair) (r : Paired) → pairGave r ≡ pairCheck p → pairGave r ≡ firstFault (pairChecks p)
+  pub run-lookup : (t : RunsLent) (a : ℕ) (r : Probed) → runLookupGave r ≡ runLookup t a
+      → First (λ o. o .number) (runChecks t) (λ n. probed n 0 0) (runLookupGave r)
+  pub bytes-lookup : (bytes : List ℕ) (a : ℕ) (r : Looked) → lookupGave r ≡ bytesLookup bytes a
+      → First looked (bytesChecks bytes) (λ n. lookedUp n 0) (lookupGave r)
+  pub packs : (q : ℕ) (p : Pair) (l : PackLent) (r : Packing) (words bases hops : List ℕ) → packGave r words bases hops ≡ pack q p l
+      → First (λ o. o .number) (packChecks q p l) (packRefused l) (packGave r words bases hops)
+  pub packed-lookup : (s : SegmentLent) (a : ℕ) (r : PackedHop) → packedGave r ≡ packedLookup s a
+      → First looked (packedChecks s a) (λ n. lookedUp n 0) (packedGave r)
+  pub announces : (net len hop : ℕ) (p : Pair) (r : Edit) (keys hops starts rhops : List ℕ)
+      → editGave r keys hops starts rhops ≡ announce net len hop p
+      → First (λ o. o .number) (announceChecks net len hop p) (editRefused p) (editGave r keys hops starts rhops)
+  pub withdraws : (net len : ℕ) (p : Pair) (r : Edit) (keys hops starts rhops : List ℕ)
+      → editGave r keys hops starts rhops ≡ withdraw net len p
+      → First (λ o. o .number) (withdrawChecks net len p) (editRefused p) (editGave r keys hops starts rhops)
+  pub splits : (k : ℕ) (l : ListLent) (out : SplitLent) (r : Parted) (keys labels : List ℕ) → splitGave r keys labels ≡ split k l out
+      → First (λ o. o .number) (splitChecks k l out) (λ n. splitInto n 0 (out .keys) (out .labels)) (splitGave r keys labels)
+  pub writes : (l : ListLent) (buffer : List ℕ) (r : Written) (out : List ℕ) → writeGave r out ≡ write l buffer
+      → First (λ o. o .number) (writeChecks l buffer) (λ n. wrote n 0 buffer) (writeGave r out)
+
+pub refusals : One
+unfolding plainLookup halfLookup import buildOf pairCheck runLookup bytesLookup pack packedLookup announce withdraw split write
+refusals = record {
+  plain-lookup = λ l a r. first-of looked _ _ _ (λ n. refl) refl (orders .lookup l) (lookupGave r);
+  half-lookup = λ l a r. first-of looked _ _ _ (λ n. refl) refl (orders .half l) (lookupGave r);
+  imports = λ feed l r keys hops report.
+      first-of (λ (o : ImportOutcome). o .number) _ _ _ (λ n. refl) refl (orders .imports feed l) (importGave r keys hops report);
+  tally = λ feed l tally r keys hops report left g. tally-untouched feed l tally g;
+  builds = λ half l s r starts hops.
+      first-of (λ (o : BuildOutcome). o .number) _ _ _ (λ n. refl) refl (orders .build half l s) (buildGave r starts hops);
+  pair-check = λ p r e. e;
+  run-lookup = λ t a r. first-of (λ (o : RunLookupOutcome). o .number) _ _ _ (λ n. refl) refl (orders .run t) (runLookupGave r);
+  bytes-lookup = λ bytes a r. first-of looked _ _ _ (λ n. refl) refl (orders .inBytes bytes) (lookupGave r);
+  packs = λ q p l r words bases hops.
+      first-of (λ (o : PackOutcome). o .number) _ _ _ (λ n. refl) refl (orders .pack q p l) (packGave r words bases hops);
+  packed-lookup = λ s a r. first-of looked _ _ _ (λ n. refl) refl (orders .packed s a) (packedGave r);
+  announces = λ net len hop p r keys hops starts rhops.
+      first-of (λ (o : Edited). o .number) _ _ _ (λ n. refl) refl (orders .announce net len hop p) (editGave r keys hops starts rhops);
+  withdraws = λ net len p r keys hops starts rhops.
+      first-of (λ (o : Edited). o .number) _ _ _ (λ n. refl) refl (orders .withdraw net len p) (editGave r keys hops starts rhops);
+  splits = λ k l out r keys labels.
+      first-of (λ (o : SplitOutcome). o .number) _ _ _ (λ n. refl) refl (orders .split k l out) (splitGave r keys labels);
+  writes = λ l buffer r out. first-of (λ (o : WriteOutcome). o .number) _ _ _ (λ n. refl) refl (orders .write l buffer) (writeGave r out);
+}
+
+-- an import that is done: every row of the feed is counted, taken or under one reason, and has its number in the report
+pub record EveryRow (feed : List ℕ) (l : ImportLent) (c : Counts) (report : List ℕ) : Type 0 where
+  pub all-rows : c .rows ≡ length (rowsIn feed)
+  pub taken-and-refused : c .rows
+      ≡ rowsWith rowTaken c
+      + (rowsWith rowShape c + (rowsWith rowRange c + (rowsWith rowHostBits c + (rowsWith rowRepeat c + rowsWith rowNoRoom c))))
+  pub each-numbered : take (c .rows) report ≡ rowNumbers (listRoom (l .keys) (l .hops)) feed
+
+pub every-row : (feed : List ℕ) (l : ImportLent) (r : Imported) (keys hops report : List ℕ) → importGave r keys hops report ≡ import feed l
+    → r .end ≡ Done → EveryRow feed l (r .counts) report
+every-row feed l r keys hops report g ended = record {
+  all-rows = rows-are-all-rows feed l g ended;
+  taken-and-refused = rows-are-taken-and-refused feed l g ended;
+  each-numbered = report-has-numbers feed l g ended;
+}

@@ -1,0 +1,69 @@
+-- Demand 2: every address gets the hop of the longest listed prefix that matches it, or 0 if none matches. The run table says the same as
+-- the list at every address, and a packed segment at every address of its segment. A list written as text reads back as the same list.
+-- Each answer here is any that keeps its entry's contract.
+-- Its definitions: `plainLookup`, `lookupGave` (routes, `Lookup`); `holds`, `lengthOf` (cidr, `Prefix`); `build`, `buildGave` (runs,
+-- `Build`); `runLookup`, `runLookupGave` (runs, `Lookup`); `pack`, `packGave` (segment, `Pack`); `packedLookup`, `packedGave` (segment,
+-- `Lookup`); `write`, `writeGave` (text, `Text`); `import`, `importGave` (feed, `Import`).
+-- Assumes nothing.
+use mathlib.Core.Path.{_≡_, refl, sym, ap, _∙_}
+use mathlib.Core.Logic.{_⊎_, inl, inr, ⊎-elim}
+use mathlib.Core.List.{List}
+use Prim.Native.Nat.{ℕ, _/_, _≤_, _<_}
+use lib.ListN.{length, getD, take}
+use Rattle.ground.specs.Numbers.{done}
+use Rattle.ground.proofs.Numbers.{accepted-is}
+use Rattle.cidr.specs.Prefix.{addresses}
+use Rattle.routes.specs.declared.Looked.{Looked}
+use Rattle.routes.specs.Row.{Row, ListLent, rowsLent, listRoom}
+use Rattle.routes.specs.Plain.{plain}
+use Rattle.routes.specs.Lookup.{LookupOutcome, lookedUp, lookupGave, plainLookup, lookupChecks}
+use Rattle.routes.proofs.Plain.{NoMatch, Longest, plain-cases}
+use Rattle.runs.specs.declared.Built.the-variants.{Runs}
+use Rattle.runs.specs.declared.Probed.{Probed}
+use Rattle.runs.specs.Table.{runsLent}
+use Rattle.runs.specs.Build.{SlotsLent, buildGave, build}
+use Rattle.runs.specs.Lookup.{runLookupGave, runLookup}
+use Rattle.runs.specs.Pair.{Pair, listOf}
+use Rattle.runs.proofs.BuildThenLookup.{build-then-lookup}
+use Rattle.segment.specs.declared.Packing.the-variants.{Done}
+use Rattle.segment.specs.declared.PackedHop.{PackedHop}
+use Rattle.segment.specs.Pack.{PackLent, packGave, pack}
+use Rattle.segment.specs.Lookup.{segmentLent, packedGave, packedLookup}
+use Rattle.segment.proofs.PackThenLookup.{pack-then-lookup}
+use Rattle.text.specs.declared.Written.the-variants.{Text}
+use Rattle.text.specs.Text.{writeGave, write}
+use Rattle.text.proofs.WriteThenImport.{ReadBackIn, write-then-import}
+use Rattle.feed.specs.declared.Imported.{Imported}
+use Rattle.feed.specs.Import.{ImportLent, importGave, import}
+
+-- an accepted plain lookup gives the hop of the longest listed prefix that holds the address, or 0 where none does
+module _ (l : ListLent) (a : ℕ) (r : Looked) (e : lookupGave r ≡ plainLookup l a) (d : lookupGave r .number ≡ done) where
+  looked : lookupGave r ≡ lookedUp done (plain (rowsLent l) a)
+  unfolding plainLookup
+  looked = e ∙ accepted-is (λ (o : LookupOutcome). o .number) (lookupChecks l) _ _ (λ n. refl) (ap (λ (o : LookupOutcome). o .number) (sym e) ∙ d)
+
+  pub longest-match : (NoMatch (rowsLent l) a × (lookupGave r .hop ≡ 0))
+      ⊎ ((x : Row) × Longest (rowsLent l) a x × (lookupGave r .hop ≡ x .hop))
+  longest-match =
+      let hop = ap (λ (o : LookupOutcome). o .hop) looked in
+      ⊎-elim (λ w. inl (w .0, hop ∙ w .1)) (λ w. inr (w .0, w .1, hop ∙ w .2)) (plain-cases (rowsLent l) a)
+
+-- run lookup in what an accepted build left gives what plain lookup gives, at every address
+pub run-table-says : (l : ListLent) (t : SlotsLent) {n : ℕ} {starts hops : List ℕ} → buildGave (Runs n) starts hops ≡ build l t
+    → {a : ℕ} (r : Probed) (p : Looked) → a < addresses → runLookupGave r ≡ runLookup (runsLent n starts hops) a
+    → lookupGave p ≡ plainLookup l a → (runLookupGave r .number ≡ done) × (runLookupGave r .hop ≡ lookupGave p .hop)
+run-table-says l t = build-then-lookup l t
+
+-- packed lookup in what an accepted packing left gives the plain answer, at every address of the segment
+pub packed-segment-says : (q : ℕ) (p : Pair) (l : PackLent) {w n m : ℕ} {words bases hops : List ℕ}
+    → packGave (Done w n m) words bases hops ≡ pack q p l → (ws bs hs : List ℕ) → take n ws ≡ take n words → take n bs ≡ take n bases
+    → take m hs ≡ take m hops → (r : PackedHop) (a : ℕ) → a / 65536 ≡ q → packedGave r ≡ packedLookup (segmentLent w ws bs hs) a
+    → packedGave r ≡ lookedUp done (plain (listOf p) a)
+packed-segment-says q p l left ws bs hs ew eb eh = pack-then-lookup q p l left ws bs hs ew eb eh
+
+-- an import of what an accepted list writer left, given room for it, takes every row and leaves that list
+pub text-reads-back : (l : ListLent) (buffer : List ℕ) {n : ℕ} {out : List ℕ} → writeGave (Text n) out ≡ write l buffer
+    → ((i : ℕ) → getD (l .hops) i 0 < 65536) → (t : ImportLent) → l .count ≤ listRoom (t .keys) (t .hops) → l .count ≤ length (t .report)
+    → (r : Imported) {keys hops report : List ℕ} → importGave r keys hops report ≡ import (take n out) t
+    → ReadBackIn l r keys hops report
+text-reads-back l buffer w fit t enough all-reported r g = write-then-import l buffer w fit t enough all-reported r g
