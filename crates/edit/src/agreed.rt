@@ -34,7 +34,8 @@ fn exceeds(
     rhops: &[u16],
 ) -> bool
     ensures { λ r. ⌜
-        r ≡ (ltb (listRoom (now (keys .entry)) (now (hops .entry))) rows || ltb (runRoom (now (starts .entry)) (now (rhops .entry))) runs) ⌝ }
+        r ≡ (ltb (listRoom (now (keys .entry)) (now (hops .entry))) rows
+        || ltb (runRoom (now (starts .entry)) (now (rhops .entry))) runs) ⌝ }
 {
     if keys.len() < rows {
         return true;
@@ -99,8 +100,8 @@ fn write_edit(
     write_row(count, keys, hops, key, hop, found);
 }
 
-// One edit of a pair that agrees: 16 for a withdrawal of what isn't listed, 13 for too little room, else the list and its run table after it.
-// Hop 0 stands for a withdrawal.
+// One edit of a pair that agrees: 16 for a withdrawal of what isn't listed, 13 for too little room, else the list and its run table
+// afterwards. Hop 0 stands for a withdrawal.
 pub fn edit_agreed(
     net: u64,
     len: u64,

@@ -16,7 +16,7 @@ pub struct Found {
 }
 
 // The place of a key among ascending keys, by halving.
-pub fn find(keys: &[u64], key: u64) -> Found
+pub(crate) fn find(keys: &[u64], key: u64) -> Found
     requires { ⌜ ascends (now keys) ≡ true ⌝ }
     ensures { λ r. ⌜ FoundIn (now (keys .entry)) key r ⌝ }
 {
@@ -29,8 +29,11 @@ pub fn find(keys: &[u64], key: u64) -> Found
 }
 
 // The hop at the prefix's own addresses: its row's, or that of the nearest row around it.
-pub fn old_hop(keys: &[u64], hops: &[u16], net: u64, len: u64, found: Found) -> u16
-    requires { ⌜ Sorted (now keys) (now hops) × (isPrefix (keyOf net len) ≡ true) × (len ≤ 32) × FoundIn (now keys) (keyOf net len) found ⌝ }
+pub(crate) fn old_hop(keys: &[u64], hops: &[u16], net: u64, len: u64, found: Found) -> u16
+    requires { ⌜ Sorted (now keys) (now hops)
+        × (isPrefix (keyOf net len) ≡ true)
+        × (len ≤ 32)
+        × FoundIn (now keys) (keyOf net len) found ⌝ }
     ensures { λ r. ⌜ r ≡ enclosingHop (keyOf net len) (allRows (now (keys .entry)) (now (hops .entry))) ⌝ }
 {
     if found.listed {
@@ -41,7 +44,7 @@ pub fn old_hop(keys: &[u64], hops: &[u16], net: u64, len: u64, found: Found) -> 
 }
 
 // The same after the edit: the announced hop, or after a withdrawal that of the nearest row around.
-pub fn new_hop(keys: &[u64], hops: &[u16], net: u64, len: u64, hop: u16) -> u16
+pub(crate) fn new_hop(keys: &[u64], hops: &[u16], net: u64, len: u64, hop: u16) -> u16
     requires { ⌜ Sorted (now keys) (now hops) × (isPrefix (keyOf net len) ≡ true) × (len ≤ 32) ⌝ }
     ensures { λ r. ⌜ r ≡ enclosingHop (keyOf net len) (editedRows (keyOf net len) hop (allRows (now (keys .entry)) (now (hops .entry)))) ⌝ }
 {

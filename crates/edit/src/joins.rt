@@ -53,7 +53,7 @@ fn block_slot(after: usize, end: u64, hop: u16, last: u16) -> usize
 }
 
 // How the old run table is spliced for the runs inside that were measured.
-pub fn seams(starts: &[u32], rhops: &[u16], net: u64, end: u64, middle: Middle) -> Splice
+pub(crate) fn seams(starts: &[u32], rhops: &[u16], net: u64, end: u64, middle: Middle) -> Splice
     requires { ⌜ OldTable (now starts) (now rhops) × (net < end) × (end ≤ 4294967296) × (middle .runs ≤ 4294967296) ⌝ }
     ensures { λ r. ⌜ Seamed (now (starts .entry)) (now (rhops .entry)) net end middle r ⌝ }
 {

@@ -1,5 +1,5 @@
-// One edit of a list and its run table: announce and withdraw, and the exact number of addresses that get another answer. An edit checks the
-// pair first; what it does to a pair that agrees is local work, in `agreed`.
+// One edit of a list and its run table: announce and withdraw, and the exact number of addresses that get another answer. An edit checks
+// the pair first; what it does to a pair that agrees is local work, in `agreed`.
 pub mod agreed;
 mod hops;
 mod joins;
@@ -106,8 +106,8 @@ pub fn announce(
     )
 }
 
-// Rule 10.1: a listed prefix loses its row, and the run table follows; 15 for what is no prefix, 11 and 14 for a pair that isn't one, 16 for
-// a prefix that isn't listed, 13 for a run table that wouldn't fit.
+// Rule 10.1: a listed prefix loses its row, and the run table follows; 15 for what is no prefix, 11 and 14 for a pair that isn't one, 16
+// for a prefix that isn't listed, 13 for a run table that wouldn't fit.
 pub fn withdraw(
     net: u32,
     len: u32,

@@ -11,14 +11,23 @@ ghost use Rattle.edit.specs.Inside.Found.{FoundIn};
 use crate::hops::Found;
 
 // The prefix's row goes in, goes out or gets the hop; hop 0 stands for a withdrawal, which is only asked for a listed prefix.
-pub fn write_row(count: usize, keys: &mut [u64], hops: &mut [u16], key: u64, hop: u16, found: Found)
+pub(crate) fn write_row(
+    count: usize,
+    keys: &mut [u64],
+    hops: &mut [u16],
+    key: u64,
+    hop: u16,
+    found: Found,
+)
     requires { ⌜ (halfFormed count (now keys) (now hops) ≡ true)
         × FoundIn (take count (now keys)) key found
         × (hop ≡ 0 → found .listed ≡ true)
         × (length (editedRows key hop (rowsOf count (now keys) (now hops))) ≤ listRoom (now keys) (now hops)) ⌝ }
     ensures { λ _. ⌜
-        (now (keys .exit) ≡ rewritten (keysOf (editedRows key hop (rowsOf count (now (keys .entry)) (now (hops .entry))))) count (now (keys .entry)))
-        × (now (hops .exit) ≡ rewritten (hopsOf (editedRows key hop (rowsOf count (now (keys .entry)) (now (hops .entry))))) count (now (hops .entry))) ⌝ }
+        (now (keys .exit) ≡
+        rewritten (keysOf (editedRows key hop (rowsOf count (now (keys .entry)) (now (hops .entry))))) count (now (keys .entry)))
+        × (now (hops .exit) ≡
+        rewritten (hopsOf (editedRows key hop (rowsOf count (now (keys .entry)) (now (hops .entry))))) count (now (hops .entry))) ⌝ }
 {
     if hop == 0 {
         ground::column64::remove(keys, count, found.at);

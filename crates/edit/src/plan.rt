@@ -62,7 +62,7 @@ fn changed_by(keys: &[u64], hops: &[u16], key: u64, old: u16, new: u16) -> u64
 }
 
 // The plan of an edit of a list and its run table; hop 0 stands for a withdrawal, which is only asked for a listed prefix.
-pub fn plan_edit(
+pub(crate) fn plan_edit(
     keys: &[u64],
     hops: &[u16],
     starts: &[u32],

@@ -5,8 +5,8 @@ ghost use lib.ListN.{length};
 ghost use Rattle.sweep.specs.Sweep.{allRows, answer, Sorted, From};
 ghost use Rattle.edit.specs.Inside.Splice.{startsInside, Splices, Spliced};
 
-// How a run table is spliced: the slot of the first run inside and what start stands there, the first old run of the block and the slot that
-// it goes to, and the hop of a run that begins at the prefix's end.
+// How a run table is spliced: the slot of the first run inside and the start that stands there, the first old run of the block and the slot
+// that it goes to, and the hop of a run that begins at the prefix's end.
 pub struct Splice {
     pub from: usize,
     pub first: u32,
@@ -17,7 +17,7 @@ pub struct Splice {
 
 // The runs of the rows from net up to end, between what stays below and the block behind. The slot before the block gets the run at the end
 // first: where there is none, the last run inside goes over it.
-pub fn splice_runs(
+pub(crate) fn splice_runs(
     keys: &[u64],
     hops: &[u16],
     base: u16,

@@ -1,5 +1,5 @@
-// The split of a list for two cores: the second half, whose labels XOR with those of the first half to the plain answer at every address. The
-// open prefixes of the first half are `sweep`'s stack; lookup over a half is `routes`'s, and run tables of halves are `runs`'s.
+// The split of a list for two cores: the second half, whose labels XOR with those of the first half to the plain answer at every address.
+// The open prefixes of the first half are `sweep`'s stack; lookup over a half is `routes`'s, and run tables of halves are `runs`'s.
 ghost use mathlib.Core.Path.{_≡_};
 ghost use mathlib.Core.List.{_∷_};
 ghost use Prim.Native.Nat.{_-_, _≤_, _<_};
@@ -24,7 +24,8 @@ pub enum Parted {
 // The stack of the open prefixes over some rows, moved on until all of them were opened.
 fn open_all(keys: &[u64], hops: &[u16], ends: &mut [u64; 33], open_hops: &mut [u16; 33]) -> Standing
     requires { ⌜ Sorted (now keys) (now hops) × (length (now ends) ≡ 33) × (length (now open_hops) ≡ 33) ⌝ }
-    ensures { λ r. ⌜ AllOpen (now (keys .entry)) (now (hops .entry)) (now (ends .exit)) (now (open_hops .exit)) (r .row) (r .depth) (r .at) ⌝ }
+    ensures { λ r. ⌜ AllOpen (now (keys .entry)) (now (hops .entry)) (now (ends .exit)) (now (open_hops .exit))
+        (r .row) (r .depth) (r .at) ⌝ }
 {
     let mut s = sweep::begin(keys, hops, 0, ends, open_hops);
     while s.row < keys.len() {

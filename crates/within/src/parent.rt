@@ -16,8 +16,8 @@ fn key_around(a: u64, len: u64) -> u64
     ((a >> bits) << bits) * 64 + len
 }
 
-// The hop of the longest listed prefix that holds a prefix and isn't it, or 0. For each shorter length, the longest first, its key is looked
-// for by halving: at most 32 searches.
+// The hop of the longest listed prefix that holds a prefix and isn't it, or 0. For each shorter length, the longest first, its key is
+// looked for by halving: at most 32 searches.
 pub fn parent_hop(keys: &[u64], hops: &[u16], net: u64, len: u64) -> u16
     requires { ⌜ Sorted (now keys) (now hops) × (isPrefix (keyOf net len) ≡ true) × (len ≤ 32) ⌝ }
     ensures { λ r. ⌜
