@@ -1,12 +1,13 @@
 -- Rules 7.9 and 7.10: what the exports return to C. An import, a pull, a packing and an edit give a struct, and each other call puts its
 -- numbers into one.
 -- Assumes nothing.
+use mathlib.Core.Path.{_≡_}
 use mathlib.Core.List.{List, [], _∷_}
 use mathlib.Core.Option.{Option, none, some}
 use Prim.Native.Nat.{ℕ, _+_, _*_}
 use Rattle.routes.specs.Lookup.{LookupOutcome}
 use Rattle.feed.specs.declared.Counts.{Counts}
-use Rattle.feed.specs.Import.{ImportOutcome}
+use Rattle.feed.specs.Import.{ImportLent, ImportOutcome, import, importTally}
 use Rattle.feed.specs.Reading.{Reading, good, bad}
 use Rattle.feed.specs.Pull.{Pulled}
 use Rattle.runs.specs.Build.{BuildOutcome}
@@ -40,6 +41,14 @@ rowForC (some (bad n)) next = record { found = 1; number = n; key = 0; hop = 0; 
 
 abbrev pub pullForC : Pulled → WhelkRow
 pullForC p = rowForC (p .reading) (p .next)
+
+-- Rules 4.9 and 7.10: what C gets from an import with a lent tally, and what that leaves. The number and the three slices are those of `import`.
+pub record HostTallyGave (feed : List ℕ) (l : ImportLent) (tally : Counts) (r : ℕ) (keys hops report : List ℕ) (tally′ : Counts) : Type 0 where
+  pub number : r ≡ import feed l .number
+  pub keys-left : keys ≡ import feed l .keys
+  pub hops-left : hops ≡ import feed l .hops
+  pub report-left : report ≡ import feed l .report
+  pub tally-left : tally′ ≡ importTally feed l tally
 
 -- Rule 7.10: what C gets from a packing and the three slices at exit, as a packing's outcome.
 abbrev pub hostPackGave : WhelkPacked → List ℕ → List ℕ → List ℕ → PackOutcome

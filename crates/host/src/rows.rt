@@ -1,9 +1,10 @@
 // The row reader for C: one row of a lent feed at a time, from any place.
-ghost use Rattle.host.specs.Exports.{rowForC, pullForC};
+ghost use Rattle.host.specs.Exports.{rowForC, pullForC, HostTallyGave};
 ghost use mathlib.Core.Path.{_≡_};
 ghost use mathlib.Core.Option.{some};
 ghost use Rattle.feed.specs.Reading.{bad, readingOf};
 ghost use Rattle.feed.specs.Pull.{nextReading, pull};
+use feed::Counts;
 use feed::NextRow;
 use feed::RowRead;
 
@@ -72,4 +73,21 @@ pub extern "C" fn whelk_pull(feed: &[u8], place: usize) -> WhelkRow
     let p = feed::pull_at(feed, place);
     let row = p.row;
     pull_for_c(row, p.next)
+}
+
+// Rule 4.9: import of a feed into lent keys, hops and report, with the counts in a lent tally.
+#[no_mangle]
+pub extern "C" fn whelk_import_tally(
+    feed: &[u8],
+    keys: &mut [u64],
+    hops: &mut [u16],
+    report: &mut [u8],
+    tally: &mut Counts,
+) -> usize
+    ensures { λ r. ⌜ HostTallyGave (now (feed .entry))
+        (record { keys = now (keys .entry); hops = now (hops .entry); report = now (report .entry) }) (now (tally .entry))
+        r (now (keys .exit)) (now (hops .exit)) (now (report .exit)) (now (tally .exit)) ⌝ }
+{
+    let end = feed::import_tally(feed, keys, hops, report, tally);
+    crate::number_of(end)
 }
