@@ -1,12 +1,12 @@
 /* Pulls against docs/RULES.md, 3.2 to 3.9 and 4.11 to 4.14: at every place of many feeds and past their ends, against a reading of its own,
-   and one after the other against the import of the same feed. */
+   and one after the other against the import of the same feed. And of each such feed the import with a lent tally (4.9). */
 #include <stdlib.h>
 #include <string.h>
 
 #include "testing.h"
 #include "whelkhollow.h"
 
-static uint64_t pulled, in_turn_pulled;
+static uint64_t pulled, in_turn_pulled, tallies;
 
 static struct whelk_row row_of(size_t found, size_t number, uint64_t key, size_t hop, size_t next)
 {
@@ -107,6 +107,43 @@ static int in_turn(const uint8_t *feed, size_t length, size_t room)
            (faults[3] == c.hostbits);
 }
 
+static int counts_are(const struct whelk_tally *t, const struct whelk_counts *c)
+{
+    return t->rows == c->rows && t->taken == c->taken && t->shape == c->shape && t->range == c->range && t->hostbits == c->hostbits &&
+           t->repeat == c->repeat && t->noroom == c->noroom;
+}
+
+/* The import with a lent tally beside the one that returns its counts, into so much room and a report of just so many bytes, and then into
+   a report that is one byte too short. The memory around the tally and all slots past the list stay as they were. */
+static int tallied(const uint8_t *feed, size_t length, size_t room)
+{
+    static uint64_t keys[2][top_rows];
+    static uint16_t hops[2][top_rows];
+    static uint8_t report[2][top_rows];
+    struct {
+        size_t before;
+        struct whelk_tally tally;
+        size_t after;
+    } lent;
+    memset(keys, 0x5a, sizeof keys);
+    memset(hops, 0x5a, sizeof hops);
+    memset(report, 0x5a, sizeof report);
+    memset(&lent, 0xa5, sizeof lent);
+    struct whelk_counts c = whelk_import(feed, length, keys[0], room, hops[0], room, report[0], top_rows);
+    int ok = 1;
+    if (c.rows > 0) {
+        struct whelk_tally was = lent.tally;
+        ok &= whelk_import_tally(feed, length, keys[1], room, hops[1], room, report[1], c.rows - 1, &lent.tally) == WHELK_REPORT_SHORT;
+        ok &= memcmp(&was, &lent.tally, sizeof was) == 0;
+        ok &= keys[1][0] == 0x5a5a5a5a5a5a5a5a && hops[1][0] == 0x5a5a && report[1][0] == 0x5a;
+    }
+    ok &= whelk_import_tally(feed, length, keys[1], room, hops[1], room, report[1], c.rows, &lent.tally) == WHELK_DONE;
+    tallies++;
+    ok &= counts_are(&lent.tally, &c) && lent.before == 0xa5a5a5a5a5a5a5a5 && lent.after == 0xa5a5a5a5a5a5a5a5;
+    return ok & (memcmp(keys[0], keys[1], sizeof keys[0]) == 0) & (memcmp(hops[0], hops[1], sizeof hops[0]) == 0) &
+           (memcmp(report[0], report[1], sizeof report[0]) == 0);
+}
+
 static void feed_of(const char *what, const uint8_t *feed, size_t length)
 {
     char name[120];
@@ -118,6 +155,8 @@ static void feed_of(const char *what, const uint8_t *feed, size_t length)
     check(name, in_turn(feed, length, 1));
     snprintf(name, sizeof name, "%s: beside an import into no slot", what);
     check(name, in_turn(feed, length, 0));
+    snprintf(name, sizeof name, "%s: a lent tally", what);
+    check(name, tallied(feed, length, top_rows) & tallied(feed, length, 1) & tallied(feed, length, 0));
 }
 
 static int gives(const char *feed, size_t place, size_t found, size_t number, uint64_t key, size_t hop, size_t next)
@@ -156,21 +195,40 @@ static void by_hand(void)
     check("range before host bits", gives("10.0.0.1/8 70000", 0, 1, 2, 0, 0, 16));
 }
 
+/* The rows of 13.5, whose numbers are 0 3 4 1 2. */
+static void tally_by_hand(void)
+{
+    const char *five = "10.0.0.0/8 7\n10.0.0.1/8 7\n10.0.0.0/8 9\n\n10.1.0.0/16 70000\n";
+    uint64_t keys[4];
+    uint16_t hops[4];
+    uint8_t report[5];
+    struct whelk_tally t = {9, 9, 9, 9, 9, 9, 9};
+    check("a tally: a short report is 12",
+          whelk_import_tally((const uint8_t *)five, strlen(five), keys, 4, hops, 4, report, 4, &t) == WHELK_REPORT_SHORT);
+    check("a tally: on 12 it stays as it was", t.rows == 9 && t.taken == 9 && t.noroom == 9);
+    check("a tally: done", whelk_import_tally((const uint8_t *)five, strlen(five), keys, 4, hops, 4, report, 5, &t) == WHELK_DONE);
+    check("a tally: five rows",
+          t.rows == 5 && t.taken == 1 && t.shape == 1 && t.range == 1 && t.hostbits == 1 && t.repeat == 1 && t.noroom == 0);
+    check("a tally: the list", keys[0] == (uint64_t)0x0a000000 * 64 + 8 && hops[0] == 7 && memcmp(report, "\0\3\4\1\2", 5) == 0);
+}
+
 /* Two rows with one byte replaced, by every byte and at every place. */
 static void one_byte_off(void)
 {
     static const char rows[] = "10.64.0.0/10 9\n200.27.240.0/20 65535";
     uint8_t feed[sizeof rows - 1];
-    int places = 1, turns = 1;
+    int places = 1, turns = 1, counted = 1;
     for (size_t i = 0; i < sizeof feed; i++)
         for (int byte = 0; byte < 256; byte++) {
             memcpy(feed, rows, sizeof feed);
             feed[i] = (uint8_t)byte;
             places &= every_place(feed, sizeof feed);
             turns &= in_turn(feed, sizeof feed, top_rows);
+            counted &= tallied(feed, sizeof feed, 1);
         }
     check("one byte replaced: every place", places);
     check("one byte replaced: one after the other", turns);
+    check("one byte replaced: a lent tally", counted);
 }
 
 static uint32_t seed = 2463534242u;
@@ -206,6 +264,7 @@ int main(void)
 {
     static uint8_t feed[top_bytes];
     by_hand();
+    tally_by_hand();
     const char *faults = "10.0.0.0/8 7\n10.0.0.1/8 7\n10.0.0.0/8 9\n\n10.1.0.0/16 70000\n"
                          "10.2.0.0/16 5\r\n010.003.0.0/16 00009\n0.0.0.0/0 1";
     feed_of("every fault", (const uint8_t *)faults, strlen(faults));
@@ -225,6 +284,7 @@ int main(void)
         feed_of(name, feed, length);
     }
     one_byte_off();
-    printf("%llu pulls at chosen places, %llu one after the other\n", (unsigned long long)pulled, (unsigned long long)in_turn_pulled);
+    printf("%llu pulls at chosen places, %llu one after the other, %llu tallies\n", (unsigned long long)pulled,
+           (unsigned long long)in_turn_pulled, (unsigned long long)tallies);
     return finish();
 }

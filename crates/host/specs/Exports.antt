@@ -42,8 +42,10 @@ rowForC (some (bad n)) next = record { found = 1; number = n; key = 0; hop = 0; 
 abbrev pub pullForC : Pulled → WhelkRow
 pullForC p = rowForC (p .reading) (p .next)
 
--- Rules 4.9 and 7.10: what C gets from an import with a lent tally, and what that leaves. The number and the three slices are those of `import`.
-pub record HostTallyGave (feed : List ℕ) (l : ImportLent) (tally : Counts) (r : ℕ) (keys hops report : List ℕ) (tally′ : Counts) : Type 0 where
+-- Rules 4.9 and 7.10: what C gets from an import with a lent tally, and what that leaves. Its number and the three slices are those of
+-- `import`.
+pub record HostTallyGave (feed : List ℕ) (l : ImportLent) (tally : Counts) (r : ℕ) (keys hops report : List ℕ) (tally′ : Counts)
+    : Type 0 where
   pub number : r ≡ import feed l .number
   pub keys-left : keys ≡ import feed l .keys
   pub hops-left : hops ≡ import feed l .hops

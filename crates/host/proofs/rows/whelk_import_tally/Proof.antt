@@ -1,5 +1,5 @@
--- `host::rows::whelk_import_tally` meets its contract: a walk of its MIR, by hand. All that is lent goes on to `import_tally` for good, and what
--- that says of the last values is handed back, with the number of the import's end.
+-- `host::rows::whelk_import_tally` meets its contract: a walk of its MIR, by hand. All that is lent goes on to `import_tally` for good, and
+-- what that says of the last values is handed back, with the number of the import's end.
 -- Assumes nothing.
 use mathlib.Core.Path.{_≡_, refl, _∙_}
 use mathlib.Core.List.{List, [], _∷_}
@@ -38,8 +38,8 @@ use denote.Triple.Clauses.{Lasts, ensured, lasts}
 use denote.Triple.Entry.{Args, Vals, onEntry}
 use denote.Triple.Spec.{Meets, tripleOf}
 use denote.Triple.Table.{entered, cited}
-use denote.Triple.Walked.{says, Stays, stay-dropped, gave-slice, gave-ref, walkOf, AllGo, goes-dropped, goes-gave-slice, goes-gave-ref, Walks}
-use denote.Triple.Walked.{ends-at, walked, walk-meets}
+use denote.Triple.Walked.{says, Stays, stay-dropped, gave-slice, gave-ref, walkOf, AllGo, goes-dropped, goes-gave-slice, goes-gave-ref}
+use denote.Triple.Walked.{Walks, ends-at, walked, walk-meets}
 use denote.Exit.{yes}
 use Rattle.feed.specs.declared.Counts.{Counts}
 use Rattle.feed.specs.declared.ImportEnd.{ImportEnd}
@@ -249,7 +249,8 @@ module _ {M : Type 1} (𝓤 : URA M) (H : Heap 𝓤) (A : Atoms 𝓤) (W : Given
       move ! (14 ∷ 15 ∷ []) $ free1 ! $ move ! (12 ∷ 13 ∷ []) $ free1 ! $ move ! (10 ∷ 11 ∷ []) $ free1 ! $
       move ! (8 ∷ 9 ∷ []) $ free1 ! $ move ! (6 ∷ 7 ∷ []) $ free1 ! $ free0 ! $
       keep ! (1 ∷ 5 ∷ 4 ∷ 3 ∷ 2 ∷ 0 ∷ []) $
-      by ! (exits n v (ws .1 .0) (ws .1 .1 .0) (ws .1 .1 .1 .0) (ws .1 .1 .1 .1 .0) (same₁, (same₂, same₃)) (gave r n ws did e))))))))))))))))))))))))))))
+      by ! (exits n v (ws .1 .0) (ws .1 .1 .0) (ws .1 .1 .1 .0) (ws .1 .1 .1 .1 .0)
+      (same₁, (same₂, same₃)) (gave r n ws did e))))))))))))))))))))))))))))
 
 module _ {M : Type 1} (𝓤 : URA M) (H : Heap 𝓤) (A : Atoms 𝓤) (W : Given 𝓤 H A) (at-mem : Memory → SProp 𝓤) (run : Routine → Fun 𝓤) where
   tally-walks : (𝓣 : Tables 𝓤 H) → Known 𝓤 H A at-mem run 𝓣
