@@ -1,4 +1,4 @@
-// The row reader for C: one row of a lent feed at a time, from any place.
+// The row reader and the lent tally for C: one row of a lent feed from any place, and an import that leaves its counts in lent memory.
 ghost use Rattle.host.specs.Exports.{rowForC, pullForC, HostTallyGave};
 ghost use mathlib.Core.Path.{_≡_};
 ghost use mathlib.Core.Option.{some};
