@@ -60,6 +60,41 @@ struct whelk_counts {
 struct whelk_counts whelk_import(const uint8_t *feed, size_t feed_length, uint64_t *keys, size_t keys_length, uint16_t *hops,
                                  size_t hops_length, uint8_t *report, size_t report_length);
 
+/* The seven counts in memory that the caller lends, as in whelk_counts. */
+struct whelk_tally {
+    size_t rows;
+    size_t taken;
+    size_t shape;
+    size_t range;
+    size_t hostbits;
+    size_t repeat;
+    size_t noroom;
+};
+
+/* Imports a text feed as whelk_import does, with the counts in a lent tally.
+   feed, keys, hops and report are as there. tally isn't null. It gets the counts of this feed, whatever it held before: it is cleared
+   before the first row, and then one is added for each row.
+   Returns the number: 0, or 12 if the report is too short. On 12 the tally stays as it was. */
+size_t whelk_import_tally(const uint8_t *feed, size_t feed_length, uint64_t *keys, size_t keys_length, uint16_t *hops, size_t hops_length,
+                          uint8_t *report, size_t report_length, struct whelk_tally *tally);
+
+/* What a pull returns. found is 1 if there is a row at the place, and 0 if not. number says what is wrong with the row: 0 nothing,
+   1 shape, 2 range, 3 host bits. key and hop are those of a row with number 0. next is the place of the next pull. What isn't said is 0. */
+struct whelk_row {
+    size_t found;
+    size_t number;
+    uint64_t key;
+    size_t hop;
+    size_t next;
+};
+
+/* Reads one row of a text feed, for hosts that take a row at a time. Begin with place 0, then hand in next, and stop where found is 0.
+   The row goes from place to the next LF, or to the feed's end. place may be any: inside a row, what is left of it is read as a row.
+   A row is read as in an import. But there is no list, so no row has number 4 or 5.
+   Returns the row, and as next the place behind its LF, or the feed's length where it has none. If place is the feed's length or more,
+   found is 0, and next is place. */
+struct whelk_row whelk_pull(const uint8_t *feed, size_t feed_length, size_t place);
+
 /* Of what a write returned: its number, and how many bytes the text has. */
 #define WHELK_WRITE_NUMBER(wrote) ((unsigned)((wrote) >> 32))
 #define WHELK_BYTES(wrote) ((size_t)((wrote)&4294967295u))

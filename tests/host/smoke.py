@@ -1,11 +1,19 @@
 #!/usr/bin/env python3
 """Each export once from Python, by ctypes, of the library made into a shared one. The last line is 'N passed, M failed'."""
 import sys
-from ctypes import CDLL, Structure, c_size_t, c_uint8, c_uint16, c_uint32, c_uint64, c_void_p
+from ctypes import CDLL, Structure, byref, c_size_t, c_uint8, c_uint16, c_uint32, c_uint64, c_void_p
 
 
 class Counts(Structure):
     _fields_ = [(name, c_size_t) for name in ("number", "rows", "taken", "shape", "range", "hostbits", "repeat", "noroom")]
+
+
+class Tally(Structure):
+    _fields_ = Counts._fields_[1:]
+
+
+class Row(Structure):
+    _fields_ = [("found", c_size_t), ("number", c_size_t), ("key", c_uint64), ("hop", c_size_t), ("next", c_size_t)]
 
 
 class Packed(Structure):
@@ -20,6 +28,8 @@ library = CDLL(sys.argv[1])
 SLICE = (c_void_p, c_size_t)
 for name, result, arguments in (
     ("whelk_import", Counts, 4 * SLICE),
+    ("whelk_import_tally", c_size_t, (*(4 * SLICE), c_void_p)),
+    ("whelk_pull", Row, (*SLICE, c_size_t)),
     ("whelk_write", c_uint64, (c_size_t, *(3 * SLICE))),
     ("whelk_plain_lookup", c_uint32, (c_size_t, *SLICE, *SLICE, c_uint32)),
     ("whelk_build", c_uint64, (c_size_t, *(4 * SLICE))),
@@ -58,6 +68,21 @@ answers = [
     (library.whelk_run_lookup_slices(5, *lent(starts, run_hops), 0xA400001), 2 * 2**32 + 9),
     (library.whelk_run_lookup_slices(0, *lent(starts, run_hops), 0), 65536 * 11),
 ]
+tally = Tally(9, 9, 9, 9, 9, 9, 9)
+answers += [
+    (library.whelk_import_tally(*lent(feed, keys, hops), report, 2, byref(tally)), 12),
+    ([getattr(tally, name) for name, _ in Tally._fields_], [9, 9, 9, 9, 9, 9, 9]),
+    (library.whelk_import_tally(*lent(feed, keys, hops, report), byref(tally)), 0),
+    ([getattr(tally, name) for name, _ in Tally._fields_], [3, 2, 0, 0, 1, 0, 0]),
+]
+for place, wanted in (
+    (0, [1, 0, (10 << 24) * 64 + 8, 7, 13]),
+    (12, [1, 1, 0, 0, 13]),
+    (28, [1, 3, 0, 0, 41]),
+    (41, [0, 0, 0, 0, 41]),
+):
+    row = library.whelk_pull(*lent(feed), place)
+    answers.append(([getattr(row, name) for name, _ in Row._fields_], wanted))
 runs = b"".join(starts[i].to_bytes(4, "big") + run_hops[i].to_bytes(2, "big") for i in range(5))
 runs = (c_uint8 * len(runs)).from_buffer_copy(runs)
 answers += [(library.whelk_run_lookup(*lent(runs), 0xA410000), 7), (library.whelk_run_lookup(runs, 29, 0), 65536 * 11)]

@@ -2,4 +2,5 @@ mod Carried
 mod EditCarried
 mod ImportCarried
 mod PackCarried
+mod PullCarried
 pub mod Settled

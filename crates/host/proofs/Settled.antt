@@ -1,15 +1,19 @@
--- What C gets from an import, a build, a packing, an edit, a list writer and a split is settled: two outcomes that keep the promise for one
--- input are the same, in what is returned and in each lent slice. The lookups promise an equation.
+-- What C gets from an import, a pull, a build, a packing, an edit, a list writer and a split is settled: two outcomes that keep the promise
+-- for one input are the same, in what is returned and in each lent slice. The lookups promise an equation.
 -- Assumes nothing.
 use mathlib.Core.Path.{_≡_, sym, ap, _∙_}
 use mathlib.Core.List.{List}
 use Prim.Native.Nat.{ℕ}
+use Rattle.feed.specs.declared.Counts.{Counts}
 use Rattle.feed.specs.Import.{ImportLent, import}
+use Rattle.feed.specs.Pull.{pull}
 use Rattle.segment.specs.Pack.{PackOutcome}
 use Rattle.edit.specs.Edit.{Edited}
 use Rattle.host.specs.declared.WhelkCounts.{WhelkCounts}
 use Rattle.host.specs.declared.WhelkPacked.{WhelkPacked}
 use Rattle.host.specs.declared.edits.WhelkEdit.{WhelkEdit}
+use Rattle.host.specs.declared.rows.WhelkRow.{WhelkRow}
+use Rattle.host.specs.Exports.{pullForC, HostTallyGave}
 use Rattle.host.specs.Exports.{hostImportGave, hostPackGave, hostEditGave, BuildForC, buildGaveC, WriteForC, writeGaveC, SplitForC, splitGaveC}
 use Rattle.host.proofs.ImportCarried.{toC}
 
@@ -23,6 +27,20 @@ module _ {w w′ : WhelkCounts} {k k′ h h′ p p′ : List ℕ} where
       → hostImportGave w k h p ≡ import feed l → hostImportGave w′ k′ h′ p′ ≡ import feed l
       → (w ≡ w′) × (k ≡ k′) × (h ≡ h′) × (p ≡ p′)
   host-import-settled feed l e e′ = host-gave-one (e ∙ sym e′)
+
+pub host-pull-settled : (feed : List ℕ) (at : ℕ) (r r′ : WhelkRow) → r ≡ pullForC (pull feed at) → r′ ≡ pullForC (pull feed at) → r ≡ r′
+host-pull-settled feed at r r′ e e′ = e ∙ sym e′
+
+pub host-tally-settled : (feed : List ℕ) (l : ImportLent) (t : Counts) (r r′ : ℕ) (k k′ h h′ p p′ : List ℕ) (t₁ t₂ : Counts)
+    → HostTallyGave feed l t r k h p t₁ → HostTallyGave feed l t r′ k′ h′ p′ t₂
+    → (r ≡ r′) × (k ≡ k′) × (h ≡ h′) × (p ≡ p′) × (t₁ ≡ t₂)
+host-tally-settled feed l t r r′ k k′ h h′ p p′ t₁ t₂ a b = (
+  a .number ∙ sym (b .number),
+  a .keys-left ∙ sym (b .keys-left),
+  a .hops-left ∙ sym (b .hops-left),
+  a .report-left ∙ sym (b .report-left),
+  a .tally-left ∙ sym (b .tally-left),
+)
 
 pub host-build-settled : (o : BuildForC) (r r′ : ℕ) (s s′ h h′ : List ℕ) → buildGaveC r s h ≡ o → buildGaveC r′ s′ h′ ≡ o
     → (r ≡ r′) × (s ≡ s′) × (h ≡ h′)

@@ -1,11 +1,15 @@
--- Rules 7.9 and 7.10: what the exports return to C. An import, a packing and an edit give a struct, and each other call puts its numbers
--- into one.
+-- Rules 7.9 and 7.10: what the exports return to C. An import, a pull, a packing and an edit give a struct, and each other call puts its
+-- numbers into one.
 -- Assumes nothing.
+use mathlib.Core.Path.{_≡_}
 use mathlib.Core.List.{List, [], _∷_}
+use mathlib.Core.Option.{Option, none, some}
 use Prim.Native.Nat.{ℕ, _+_, _*_}
 use Rattle.routes.specs.Lookup.{LookupOutcome}
 use Rattle.feed.specs.declared.Counts.{Counts}
-use Rattle.feed.specs.Import.{ImportOutcome}
+use Rattle.feed.specs.Import.{ImportLent, ImportOutcome, import, importTally}
+use Rattle.feed.specs.Reading.{Reading, good, bad}
+use Rattle.feed.specs.Pull.{Pulled}
 use Rattle.runs.specs.Build.{BuildOutcome}
 use Rattle.runs.specs.Lookup.{RunLookupOutcome}
 use Rattle.segment.specs.Pack.{PackOutcome}
@@ -15,6 +19,7 @@ use Rattle.text.specs.Text.{WriteOutcome}
 use Rattle.host.specs.declared.WhelkCounts.{WhelkCounts}
 use Rattle.host.specs.declared.WhelkPacked.{WhelkPacked}
 use Rattle.host.specs.declared.edits.WhelkEdit.{WhelkEdit}
+use Rattle.host.specs.declared.rows.WhelkRow.{WhelkRow}
 
 -- Rule 4.5: the seven counts that C gets, all rows and then one for each row number.
 abbrev pub countsIn : WhelkCounts → Counts
@@ -27,6 +32,25 @@ countsIn w = record {
 abbrev pub hostImportGave : WhelkCounts → List ℕ → List ℕ → List ℕ → ImportOutcome
 hostImportGave w keys hops report =
     record { number = w .number; counts = countsIn w; keys = keys; hops = hops; report = report }
+
+-- Rule 7.10: what C gets from a pull. Found says whether there is a row, a good row has number 0, and what isn't said is 0.
+abbrev pub rowForC : Option Reading → ℕ → WhelkRow
+rowForC none next = record { found = 0; number = 0; key = 0; hop = 0; next = next }
+rowForC (some (good k h)) next = record { found = 1; number = 0; key = k; hop = h; next = next }
+rowForC (some (bad n)) next = record { found = 1; number = n; key = 0; hop = 0; next = next }
+
+abbrev pub pullForC : Pulled → WhelkRow
+pullForC p = rowForC (p .reading) (p .next)
+
+-- Rules 4.9 and 7.10: what C gets from an import with a lent tally, and what that leaves. Its number and the three slices are those of
+-- `import`.
+pub record HostTallyGave (feed : List ℕ) (l : ImportLent) (tally : Counts) (r : ℕ) (keys hops report : List ℕ) (tally′ : Counts)
+    : Type 0 where
+  pub number : r ≡ import feed l .number
+  pub keys-left : keys ≡ import feed l .keys
+  pub hops-left : hops ≡ import feed l .hops
+  pub report-left : report ≡ import feed l .report
+  pub tally-left : tally′ ≡ importTally feed l tally
 
 -- Rule 7.10: what C gets from a packing and the three slices at exit, as a packing's outcome.
 abbrev pub hostPackGave : WhelkPacked → List ℕ → List ℕ → List ℕ → PackOutcome

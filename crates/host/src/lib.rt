@@ -1,6 +1,7 @@
 // The C interface: the library's entries over memory that the host lends, each with one number or one plain struct back. It adds no rule of
 // its own; include/whelkhollow.h declares what is exported here.
 pub mod edits;
+pub mod rows;
 
 ghost use Rattle.host.specs.Exports.{hostImportGave, lookupForC, runLookupForC, builtForC, buildGaveC, buildForC};
 ghost use Rattle.host.specs.Exports.{hostPackGave, writtenForC, writeGaveC, writeForC, partedForC, splitGaveC, splitForC};
