@@ -1,8 +1,8 @@
 /* Whelkhollow for C. Link libhost.a, which `rt staticlib host` proves and builds for x86-64 Linux. docs/RULES.md has all rules.
 
-   A pointer is followed by the length of its memory, counted in elements. The memory is aligned for them. The pointer isn't null, even where
-   the length is 0. Memory that a call writes overlaps nothing else that the call is lent. No call allocates memory or keeps any state, so calls
-   on memory of their own may run side by side.
+   A pointer, but that of a tally, is followed by the length of its memory, counted in elements. The memory is aligned for them. The pointer
+   isn't null, even where the length is 0. Memory that a call writes overlaps nothing else that the call is lent. No call allocates memory
+   or keeps any state, so calls on memory of their own may run side by side.
 
    An address is a number whose highest byte is the first octet: 10.64.0.1 is 0x0a400001, which is `ntohl` of a `s_addr`. */
 #ifndef WHELKHOLLOW_H
@@ -18,7 +18,7 @@ extern "C" {
 /* What became of a call. A call with another number than 0 is refused: it writes nothing, and whatever else it returns is 0. */
 enum whelk_number {
     WHELK_DONE = 0,           /* the call is done */
-    WHELK_ILL_FORMED = 11,    /* the list or the half is ill-formed, or there are more runs than were lent; in a run lookup, no runs too */
+    WHELK_ILL_FORMED = 11,    /* the list or the half is ill-formed, or there are more runs than can be; in a run lookup, no runs too */
     WHELK_REPORT_SHORT = 12,  /* the feed has more rows than the report has bytes */
     WHELK_NO_ROOM = 13,       /* the result doesn't fit what was lent */
     WHELK_NOT_ITS_RUNS = 14,  /* the run table is another than the list's */
@@ -78,8 +78,9 @@ struct whelk_tally {
 size_t whelk_import_tally(const uint8_t *feed, size_t feed_length, uint64_t *keys, size_t keys_length, uint16_t *hops, size_t hops_length,
                           uint8_t *report, size_t report_length, struct whelk_tally *tally);
 
-/* What a pull returns. found is 1 if there is a row at the place, and 0 if not. number says what is wrong with the row: 0 nothing,
-   1 shape, 2 range, 3 host bits. key and hop are those of a row with number 0. next is the place of the next pull. What isn't said is 0. */
+/* What a pull returns. Look at found first: it is 1 if there is a row at the place, and 0 if not. number is the row's and not the call's,
+   since a pull is never refused: 0 for a good row, 1 shape, 2 range, 3 host bits. key and hop are those of a good row: its network is
+   key / 64 and its length key % 64. next is the place of the next pull. What isn't said is 0. */
 struct whelk_row {
     size_t found;
     size_t number;
@@ -176,7 +177,8 @@ uint32_t whelk_packed_lookup(uint32_t width, const uint16_t *words, size_t words
                              const uint16_t *hops, size_t hops_length, uint32_t address);
 
 /* What an edit returns: its number, how many addresses have another hop than before, and the new counts of rows and of runs. The changed
-   number is 4,294,967,296 at the most. */
+   number is 4,294,967,296 at the most. Look at the number first: on a refusal the rest is 0, and the list and the run table keep the counts
+   that were handed in. */
 struct whelk_edit {
     size_t number;
     uint64_t changed;
@@ -189,8 +191,8 @@ struct whelk_edit {
    run_hops. Both are checked, which goes through all of the list.
    keys and hops get the edited list, and starts and run_hops its run table, in each slot below their counts what a build would give.
    Where a count is smaller than before, the slots that only the old one reached hold 0. Slots past both counts stay as they were.
-   Lend count + 1 slots in keys and hops, and 2 x count + 3 in starts and run_hops; that is always enough. A new hop can make many runs
-   at once: rows inside the prefix that had the hop it had show as runs of their own.
+   Lend count + 1 slots in keys and hops, and 2 x count + 3 in starts and run_hops; for a list of fewer than WHELK_TOP_ROWS rows that is
+   always enough. A new hop can make many runs at once: rows inside the prefix that had the hop it had show as runs of their own.
    Returns number 0, the changed number and both counts; or 15 if the length is above 32, a bit of the network beyond the length is 1 or
    the hop is 0, 11 if the list is ill-formed or `runs` is above one of the lengths or WHELK_TOP_RUNS, 14 if the run table is another
    than the list's, or 13 if the edited list or its run table is longer than what was lent, or the list longer than WHELK_TOP_ROWS; where

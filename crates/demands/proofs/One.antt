@@ -1,14 +1,15 @@
 -- Demand 1: any feed, list, table or address may be handed to any entry. A refused call says which fault it met first, by number, and
 -- changes no lent memory. Import carries on past a bad row: every row gets its number, and rows in = rows taken + rows refused, reason by
--- reason. Each answer here is any that keeps its entry's contract; an entry that isn't here refuses nothing.
+-- reason. Each answer here is any that keeps its entry's contract. An entry of the library that isn't here refuses nothing; the exports give
+-- the same outcomes (host, `Exports`).
 -- Its definitions: `firstFault`, `checkOrder` (ground, `Numbers`), and of each entry its outcome, its checks and its `Gave`.
 -- Assumes nothing.
-use mathlib.Core.Path.{_≡_, refl}
+use mathlib.Core.Path.{_≡_, refl, sym, ap, _∙_}
 use mathlib.Core.Bool.{Bool}
 use mathlib.Core.List.{List}
 use Prim.Native.Nat.{ℕ, _+_}
 use lib.ListN.{length, take}
-use Rattle.ground.specs.Numbers.{firstFault, outcome, done}
+use Rattle.ground.specs.Numbers.{firstFault, done}
 use Rattle.routes.specs.declared.Looked.{Looked}
 use Rattle.routes.specs.Row.{ListLent, listRoom}
 use Rattle.routes.specs.Lookup.{lookedUp, LookupOutcome, lookupGave, plainLookup, lookupChecks, halfLookup, halfChecks}
@@ -18,9 +19,9 @@ use Rattle.feed.specs.declared.ImportEnd.{ImportEnd}
 use Rattle.feed.specs.declared.ImportEnd.the-variants.{Done, ReportShort}
 use Rattle.feed.specs.Rows.{rowsIn}
 use Rattle.feed.specs.RowNumber.{rowsWith, rowTaken, rowShape, rowRange, rowHostBits, rowRepeat, rowNoRoom}
-use Rattle.feed.specs.Import.{ImportLent, ImportOutcome, importGave, import, importChecks, importRefused, importAccepted, rowNumbers, TallyGave}
+use Rattle.feed.specs.Import.{ImportLent, ImportOutcome, importGave, import, importChecks, importRefused, rowNumbers, endNumber, TallyGave}
 use Rattle.feed.proofs.Promise.{rows-are-taken-and-refused, rows-are-all-rows, report-has-numbers}
-use Rattle.feed.proofs.TallyPromise.{tally-untouched}
+use Rattle.feed.proofs.TallyPromise.{tally-is-counts, tally-untouched}
 use Rattle.runs.specs.declared.Built.{Built}
 use Rattle.runs.specs.declared.Paired.{Paired}
 use Rattle.runs.specs.declared.Probed.{Probed}
@@ -38,12 +39,40 @@ use Rattle.edit.specs.declared.Edit.{Edit}
 use Rattle.edit.specs.Edit.{Edited, editRefused, editGave, announce, announceChecks, withdraw, withdrawChecks}
 use Rattle.split.specs.declared.Parted.{Parted}
 use Rattle.split.specs.Split.{SplitLent, SplitOutcome, splitInto, splitGave, split, splitChecks}
-use Rattle.demands.proofs.Orders.{orders}
+use Rattle.demands.proofs.Orders.{InOrder, orders}
 use Rattle.demands.proofs.First.{First, first-of}
 
 -- the number of what a lookup over a list or a segment gives
 abbrev looked : LookupOutcome → ℕ
 looked o = o .number
+
+-- an import with a lent tally: its first fault as of any call, and on a refusal the three slices and the tally as they were
+pub record TallyFirst (feed : List ℕ) (l : ImportLent) (tally : Counts) (number : ℕ) (keys hops report : List ℕ) (left : Counts) : Type 0 where
+  pub names-first : number ≡ firstFault (importChecks feed l)
+  pub in-order : InOrder (importChecks feed l)
+  pub leaves-all : (number ≡ done → ⊥) → (keys ≡ l .keys) × (hops ≡ l .hops) × (report ≡ l .report) × (left ≡ tally)
+
+import-first : (feed : List ℕ) (l : ImportLent) → First (λ (o : ImportOutcome). o .number) (importChecks feed l) (importRefused l) (import feed l)
+unfolding import
+import-first feed l = first-of (λ (o : ImportOutcome). o .number) _ _ _ (λ n. refl) refl (orders .imports feed l) _ refl
+
+tally-first : (feed : List ℕ) (l : ImportLent) (tally : Counts) (r : ImportEnd) (keys hops report : List ℕ) (left : Counts)
+    → TallyGave feed l tally r keys hops report left → TallyFirst feed l tally (endNumber r) keys hops report left
+tally-first feed l tally r keys hops report left g = record {
+  names-first = g .number ∙ import-first feed l .names-first;
+  in-order = orders .imports feed l;
+  leaves-all = λ fault.
+      let is = import-first feed l .leaves-all (λ z. fault (g .number ∙ z)) in (
+        g .keys-left ∙ ap (λ (o : ImportOutcome). o .keys) is,
+        g .hops-left ∙ ap (λ (o : ImportOutcome). o .hops) is,
+        g .report-left ∙ ap (λ (o : ImportOutcome). o .report) is,
+        tally-untouched feed l tally g (short r fault),
+      );
+}
+  where
+    short : (r : ImportEnd) → (endNumber r ≡ done → ⊥) → r ≡ ReportShort
+    short Done fault = absurd (fault refl)
+    short ReportShort fault = refl
 
 pub record One : Type 0 where
   pub plain-lookup : (l : ListLent) (a : ℕ) (r : Looked) → lookupGave r ≡ plainLookup l a
@@ -53,10 +82,10 @@ pub record One : Type 0 where
   pub imports : (feed : List ℕ) (l : ImportLent) (r : Imported) (keys hops report : List ℕ) → importGave r keys hops report ≡ import feed l
       → First (λ o. o .number) (importChecks feed l) (importRefused l) (importGave r keys hops report)
   pub tally : (feed : List ℕ) (l : ImportLent) (tally : Counts) (r : ImportEnd) (keys hops report : List ℕ) (left : Counts)
-      → TallyGave feed l tally r keys hops report left → r ≡ ReportShort → left ≡ tally
+      → TallyGave feed l tally r keys hops report left → TallyFirst feed l tally (endNumber r) keys hops report left
   pub builds : (half : Bool) (l : ListLent) (s : SlotsLent) (r : Built) (starts hops : List ℕ) → buildGave r starts hops ≡ buildOf half l s
       → First (λ o. o .number) (buildChecks half l s) (λ n. built n 0 (s .starts) (s .hops)) (buildGave r starts hops)
-  pub pair-check : (p : Pair) (r : Paired) → pairGave r ≡ pairCheck p → pairGave r ≡ firstFault (pairChecks p)
+  pub pair-check : (p : Pair) (r : Paired) → pairGave r ≡ pairCheck p → (pairGave r ≡ firstFault (pairChecks p)) × InOrder (pairChecks p)
   pub run-lookup : (t : RunsLent) (a : ℕ) (r : Probed) → runLookupGave r ≡ runLookup t a
       → First (λ o. o .number) (runChecks t) (λ n. probed n 0 0) (runLookupGave r)
   pub bytes-lookup : (bytes : List ℕ) (a : ℕ) (r : Looked) → lookupGave r ≡ bytesLookup bytes a
@@ -83,10 +112,10 @@ refusals = record {
   half-lookup = λ l a r. first-of looked _ _ _ (λ n. refl) refl (orders .half l) (lookupGave r);
   imports = λ feed l r keys hops report.
       first-of (λ (o : ImportOutcome). o .number) _ _ _ (λ n. refl) refl (orders .imports feed l) (importGave r keys hops report);
-  tally = λ feed l tally r keys hops report left g. tally-untouched feed l tally g;
+  tally = tally-first;
   builds = λ half l s r starts hops.
       first-of (λ (o : BuildOutcome). o .number) _ _ _ (λ n. refl) refl (orders .build half l s) (buildGave r starts hops);
-  pair-check = λ p r e. e;
+  pair-check = λ p r e. (e, orders .pair p);
   run-lookup = λ t a r. first-of (λ (o : RunLookupOutcome). o .number) _ _ _ (λ n. refl) refl (orders .run t) (runLookupGave r);
   bytes-lookup = λ bytes a r. first-of looked _ _ _ (λ n. refl) refl (orders .inBytes bytes) (lookupGave r);
   packs = λ q p l r words bases hops.
@@ -116,3 +145,12 @@ every-row feed l r keys hops report g ended = record {
   taken-and-refused = rows-are-taken-and-refused feed l g ended;
   each-numbered = report-has-numbers feed l g ended;
 }
+
+-- the same of the counts in a lent tally
+pub every-row-tally : (feed : List ℕ) (l : ImportLent) (tally : Counts) (r : ImportEnd) (keys hops report : List ℕ) (left : Counts)
+    → TallyGave feed l tally r keys hops report left → r ≡ Done → EveryRow feed l left report
+every-row-tally feed l tally r keys hops report left g ended =
+    let i : Imported = record { end = Done; counts = import feed l .counts } in
+    let gave : importGave (record { end = Done; counts = import feed l .counts }) keys hops report ≡ import feed l =
+    rw (g .keys-left, g .hops-left, g .report-left) (rw (sym (g .number) ∙ ap endNumber ended)) in
+    rw (tally-is-counts feed l tally g ended i gave) (every-row feed l i keys hops report gave refl)

@@ -2,29 +2,38 @@
 -- the list at every address, and a packed segment at every address of its segment. A list written as text reads back as the same list.
 -- Each answer here is any that keeps its entry's contract.
 -- Its definitions: `plainLookup`, `lookupGave` (routes, `Lookup`); `holds`, `lengthOf` (cidr, `Prefix`); `build`, `buildGave` (runs,
--- `Build`); `runLookup`, `runLookupGave` (runs, `Lookup`); `pack`, `packGave` (segment, `Pack`); `packedLookup`, `packedGave` (segment,
--- `Lookup`); `write`, `writeGave` (text, `Text`); `import`, `importGave` (feed, `Import`).
+-- `Build`); `runLookup`, `runLookupGave`, `bytesLookup` (runs, `Lookup`); `runBytes` (runs, `Bytes`); `pack`, `packGave` (segment, `Pack`);
+-- `packedLookup`, `packedGave` (segment, `Lookup`); `write`, `writeGave` (text, `Text`); `import`, `importGave` (feed, `Import`).
 -- Assumes nothing.
 use mathlib.Core.Path.{_≡_, refl, sym, ap, _∙_}
 use mathlib.Core.Logic.{_⊎_, inl, inr, ⊎-elim}
+use mathlib.Core.Bool.{true, false}
 use mathlib.Core.List.{List}
 use Prim.Native.Nat.{ℕ, _/_, _≤_, _<_}
 use lib.ListN.{length, getD, take}
 use Rattle.ground.specs.Numbers.{done}
-use Rattle.ground.proofs.Numbers.{accepted-is}
+use Rattle.ground.specs.Slots.{written}
+use Rattle.ground.proofs.Truth.{not-false}
+use Rattle.ground.proofs.Slots.{take-written}
+use Rattle.ground.proofs.Numbers.{accepted-fault, accepted-is, no-fault}
 use Rattle.cidr.specs.Prefix.{addresses}
 use Rattle.routes.specs.declared.Looked.{Looked}
 use Rattle.routes.specs.Row.{Row, ListLent, rowsLent, listRoom}
 use Rattle.routes.specs.Plain.{plain}
+use Rattle.routes.specs.WellFormed.{wellFormed, formed}
+use Rattle.routes.proofs.LookupOutcome.{plain-accepted}
 use Rattle.routes.specs.Lookup.{LookupOutcome, lookedUp, lookupGave, plainLookup, lookupChecks}
 use Rattle.routes.proofs.Plain.{NoMatch, Longest, plain-cases}
 use Rattle.runs.specs.declared.Built.the-variants.{Runs}
 use Rattle.runs.specs.declared.Probed.{Probed}
-use Rattle.runs.specs.Table.{runsLent}
-use Rattle.runs.specs.Build.{SlotsLent, buildGave, build}
-use Rattle.runs.specs.Lookup.{runLookupGave, runLookup}
+use Rattle.runs.specs.Table.{runsLent, runStarts, runHops}
+use Rattle.runs.specs.Bytes.{runBytes}
+use Rattle.runs.specs.Build.{SlotsLent, BuildOutcome, built, buildGave, build, buildOf, buildChecks}
+use Rattle.runs.specs.Lookup.{runLookupGave, runLookup, bytesLookup}
 use Rattle.runs.specs.Pair.{Pair, listOf}
+use Rattle.runs.proofs.Lookups.{bytes-lookup-plain}
 use Rattle.runs.proofs.BuildThenLookup.{build-then-lookup}
+use Rattle.edit.proofs.EditKeepsPair.{same-count}
 use Rattle.segment.specs.declared.Packing.the-variants.{Done}
 use Rattle.segment.specs.declared.PackedHop.{PackedHop}
 use Rattle.segment.specs.Pack.{PackLent, packGave, pack}
@@ -53,6 +62,33 @@ pub run-table-says : (l : ListLent) (t : SlotsLent) {n : ℕ} {starts hops : Lis
     → {a : ℕ} (r : Probed) (p : Looked) → a < addresses → runLookupGave r ≡ runLookup (runsLent n starts hops) a
     → lookupGave p ≡ plainLookup l a → (runLookupGave r .number ≡ done) × (runLookupGave r .hop ≡ lookupGave p .hop)
 run-table-says l t = build-then-lookup l t
+
+-- and so does lookup in the run bytes of those runs
+module _ (l : ListLent) (t : SlotsLent) {n : ℕ} {starts hops : List ℕ} (b : buildGave (Runs n) starts hops ≡ build l t) where
+  left : built done n starts hops
+      ≡ built done (length (runStarts (rowsLent l))) (written (runStarts (rowsLent l)) (t .starts)) (written (runHops (rowsLent l)) (t .hops))
+  unfolding buildOf
+  left = b ∙ accepted-is (λ (o : BuildOutcome). o .number) (buildChecks false l t) _ _ (λ n. refl) (ap (λ (o : BuildOutcome). o .number) (sym b))
+
+  well : wellFormed (l .count) (l .keys) (l .hops) ≡ true
+  unfolding buildOf buildChecks formed
+  well =
+      let none = accepted-fault (λ (o : BuildOutcome). o .number) (buildChecks false l t) _ _ (λ n. refl) (ap (λ (o : BuildOutcome). o .number) (sym b)) in
+      not-false _ (no-fault _ 10 _ none .0)
+
+  count-is : n ≡ length (runStarts (rowsLent l))
+  count-is = ap (λ (o : BuildOutcome). o .runs) left
+
+  bytes-are : runBytes (take n starts) (take n hops) ≡ runBytes (runStarts (rowsLent l)) (runHops (rowsLent l))
+  bytes-are =
+      let s = ap (take n) (ap (λ (o : BuildOutcome). o .starts) left) ∙ take-written _ (t .starts) n count-is in
+      let h = ap (take n) (ap (λ (o : BuildOutcome). o .hops) left) ∙ take-written _ (t .hops) n (count-is ∙ sym (same-count (rowsLent l))) in
+      rw (s, h)
+
+  pub run-bytes-say : (a : ℕ) (r p : Looked) → a < addresses → lookupGave r ≡ bytesLookup (runBytes (take n starts) (take n hops)) a
+      → lookupGave p ≡ plainLookup l a → lookupGave r ≡ lookupGave p
+  run-bytes-say a r p below e e′ =
+      e ∙ ap (λ bytes. bytesLookup bytes a) bytes-are ∙ bytes-lookup-plain (rowsLent l) a below ∙ sym (e′ ∙ plain-accepted l a well)
 
 -- packed lookup in what an accepted packing left gives the plain answer, at every address of the segment
 pub packed-segment-says : (q : ℕ) (p : Pair) (l : PackLent) {w n m : ℕ} {words bases hops : List ℕ}
