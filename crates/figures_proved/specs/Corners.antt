@@ -19,7 +19,7 @@ use Rattle.feed.specs.Reading.{Reading, good, bad}
 use Rattle.feed.specs.declared.Counts.{Counts}
 use Rattle.feed.specs.RowNumber.{countsOf}
 use Rattle.feed.specs.Import.{rowNumbers, importedList, ImportLent, import, importTally}
-use Rattle.feed.specs.Pull.{pull}
+use Rattle.feed.specs.Pull.{pull, pulls}
 use Rattle.runs.specs.Table.{runsLent}
 use Rattle.runs.specs.Build.{slotsLent, build, buildHalf}
 use Rattle.runs.specs.Pair.{Pair, pair}
@@ -168,6 +168,12 @@ corners =
     ∷ figure (pulled (pull (bytes "110.0.0.0/8 7\nx") 1 .reading)) (0 ∷ prefix 10 0 0 0 8 ∷ 7 ∷ [])
     ∷ figure (pulled (pull (bytes "10.0.0.1/8 7\nx") 0 .reading)) (3 ∷ 0 ∷ 0 ∷ [])
     ∷ figure (pulled (pull (bytes "\n") 1 .reading)) []
+    -- Rules 4.12 to 4.14: a feed of no bytes, a row at the end without LF, and the pulls of a whole feed.
+    ∷ figure (pulled (pull [] 0 .reading)) []
+    ∷ figure (pull [] 0 .next ∷ pull [] 3 .next ∷ length (pulls []) ∷ []) (0 ∷ 3 ∷ 0 ∷ [])
+    ∷ figure (pulled (pull (bytes "255.255.255.255/32 7") 0 .reading)) (0 ∷ prefix 255 255 255 255 32 ∷ 7 ∷ [])
+    ∷ figure (pull (bytes "0.0.0.0/0 7") 0 .next ∷ pull (bytes "0.0.0.0/0 7\n") 0 .next ∷ []) (11 ∷ 12 ∷ [])
+    ∷ figure (length (pulls (bytes "\n\nx")) ∷ length (pulls (bytes "x\n")) ∷ []) (3 ∷ 1 ∷ [])
     -- Rules 7.3 and 7.5: one run takes no probe, and five runs at most three.
     ∷ figure (halving (λ i. i) 1 9 .low ∷ halving (λ i. i) 1 9 .probes ∷ []) (0 ∷ 0 ∷ [])
     ∷ figure (halving (λ i. i) 5 9 .low ∷ halving (λ i. i) 5 9 .probes ∷ []) (4 ∷ 3 ∷ [])
@@ -210,6 +216,8 @@ corners =
     ∷ figure (counts (import fiveRows (lent (0 ∷ []) (0 ∷ []) (9 ∷ [])) .counts)) (0 ∷ 0 ∷ 0 ∷ 0 ∷ 0 ∷ 0 ∷ 0 ∷ [])
     ∷ figure (counts (importTally fiveRows (lent [] [] (9 ∷ 9 ∷ 9 ∷ 9 ∷ 9 ∷ [])) (countsOf (1 ∷ 1 ∷ [])))) (5 ∷ 0 ∷ 1 ∷ 1 ∷ 1 ∷ 0 ∷ 2 ∷ [])
     ∷ one (importTally fiveRows (lent [] [] (9 ∷ [])) (countsOf (7 ∷ [])) .rows) 1
+    ∷ figure (counts (importTally [] (lent [] [] []) (countsOf (0 ∷ 1 ∷ [])))) (0 ∷ 0 ∷ 0 ∷ 0 ∷ 0 ∷ 0 ∷ 0 ∷ [])
+    ∷ figure (counts (importTally (bytes "0.0.0.0/0 7") (lent [] [] (9 ∷ [])) (countsOf (0 ∷ 1 ∷ [])))) (1 ∷ 0 ∷ 0 ∷ 0 ∷ 0 ∷ 0 ∷ 1 ∷ [])
     -- Rules 13.3 and 13.4: the lines that the program writes for them.
     ∷ figure (countLines (countsOf (rowNumbers 1024 fiveRows)))
     (bytes "rows 5\ntaken 1\nshape 1\nrange 1\nhostbits 1\nrepeat 1\nnoroom 0\n")
@@ -278,6 +286,10 @@ corners =
     -- Rule 5.4: a refusal returns 0 for the counts, and the slices stay.
     ∷ figure (announce 0 33 1 illPair .number ∷ announce 1 8 1 illPair .number ∷ announce 0 8 0 illPair .number ∷ []) (15 ∷ 15 ∷ 15 ∷ [])
     ∷ one (withdraw 0 33 illPair .number) 15
+    -- Rule 10.2: lengths of 64 and more are no shorter ones, and 255.255.255.255 is a network of length 32 alone.
+    ∷ figure (announce 0 64 1 illPair .number ∷ announce 0 72 1 illPair .number ∷ withdraw 0 64 illPair .number ∷ []) (15 ∷ 15 ∷ 15 ∷ [])
+    ∷ figure (announce 4294967295 31 1 illPair .number ∷ announce 4294967295 32 1 illPair .number ∷ []) (15 ∷ 11 ∷ [])
+    ∷ figure (withdraw 1 0 illPair .number ∷ withdraw 0 0 illPair .number ∷ []) (15 ∷ 11 ∷ [])
     ∷ figure (announce 0 8 1 illPair .number ∷ withdraw 0 8 illPair .number ∷ []) (11 ∷ 11 ∷ [])
     ∷ figure (announce 0 8 1 illPair .count ∷ announce 0 8 1 illPair .changed ∷ []) (0 ∷ 0 ∷ [])
     ∷ figure (announce 0 8 1 illPair .starts) (5 ∷ [])
