@@ -209,7 +209,7 @@ int main(void)
     for (most = 1000; most <= MOST; most *= 10) {
         n = nested_once(keys, most);
         for (i = 0; i < n; i++) hops[i] = (uint16_t)(1 + any() % 200);
-        runs = WHELK_RUNS(whelk_build(n, keys, n, hops, n, starts, 2 * n + 1, run_hops, 2 * n + 1));
+        runs = whelk_build_runs(whelk_build(n, keys, n, hops, n, starts, 2 * n + 1, run_hops, 2 * n + 1));
         pick_batch(most < MOST ? 10 : 3);
         rows(announce_whole, withdraw_whole, nested_ones, &ours, &in_c);
         row(check_alone, n, nested_ones, checked, checked_in_c, batched);

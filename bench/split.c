@@ -57,8 +57,8 @@ static uint64_t build_by(building *build)
     uint64_t one = build(k, keys, n, hops, n, halves[0].starts, 2 * k + 1, halves[0].labels, 2 * k + 1);
     uint64_t other = build(half_count, half_keys, half_count, labels, half_count, halves[1].starts, 2 * half_count + 1, halves[1].labels,
                            2 * half_count + 1);
-    halves[0].runs = WHELK_RUNS(one);
-    halves[1].runs = WHELK_RUNS(other);
+    halves[0].runs = whelk_build_runs(one);
+    halves[1].runs = whelk_build_runs(other);
     return one + 3 * other + 5 * written(halves, sizeof halves);
 }
 
@@ -94,7 +94,7 @@ static void *forward(void *argument)
     pthread_barrier_wait(&all_begin);
     c->began = seconds();
     for (i = c->from; i < c->to; i++)
-        c->labels[i] = (uint16_t)WHELK_HOP(whelk_run_lookup_slices(t->runs, t->starts, t->runs, t->labels, t->runs, addresses[i]));
+        c->labels[i] = (uint16_t)whelk_lookup_hop(whelk_run_lookup_slices(t->runs, t->starts, t->runs, t->labels, t->runs, addresses[i]));
     if (xored) {
         size_t first = c == cores ? 0 : LOOKUPS / 2;
         pthread_barrier_wait(&both_found);
@@ -140,7 +140,7 @@ static void three_ways(const char *inputs)
     double one[ROUNDS], split[ROUNDS], shared[ROUNDS], a, b, c;
     size_t i;
     for (i = 0; i < LOOKUPS; i++)
-        right[i] = (uint16_t)WHELK_HOP(whelk_run_lookup_slices(whole.runs, whole.starts, whole.runs, whole.labels, whole.runs, addresses[i]));
+        right[i] = (uint16_t)whelk_lookup_hop(whelk_run_lookup_slices(whole.runs, whole.starts, whole.runs, whole.labels, whole.runs, addresses[i]));
     run(1, 0);
     run(2, 1);
     for (i = 0; i < ROUNDS; i++) {
@@ -162,7 +162,7 @@ static void lookups(size_t most)
     make_list(most);
     ours();
     built();
-    whole.runs = WHELK_RUNS(whelk_build(n, keys, n, hops, n, whole.starts, 2 * n + 1, whole.labels, 2 * n + 1));
+    whole.runs = whelk_build_runs(whelk_build(n, keys, n, hops, n, whole.starts, 2 * n + 1, whole.labels, 2 * n + 1));
     printf("%-22s %9lu  %zu KB, of the halves %zu KB and %zu KB", "run table", (unsigned long)n, 6 * whole.runs / 1024,
            6 * halves[0].runs / 1024, 6 * halves[1].runs / 1024);
     if (cache > 0) printf("; a core's second cache %ld KB", cache / 1024);

@@ -34,7 +34,7 @@ int main(void)
         row("write, for each row", n, "nested", ours, in_c, n);
         row("write, C unchecked", n, "nested", ours, in_c_unchecked, n);
         row("write, C by libc", n, "nested", ours, in_c_by_libc, n);
-        room = WHELK_BYTES(whelk_write(n, keys, n, hops, n, text, room));
+        room = whelk_write_bytes(whelk_write(n, keys, n, hops, n, text, room));
         row("write, just enough", n, "nested", ours, in_c, n);
     }
     return 0;

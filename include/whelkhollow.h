@@ -1,8 +1,17 @@
-/* Whelkhollow for C. Link libhost.a, which `rt staticlib host` proves and builds for x86-64 Linux. docs/RULES.md has all rules.
+/* Whelkhollow for C: IPv4 route lists, from a feed's text to the hop of an address. docs/RULES.md has all rules, and README.md how to link.
 
-   A pointer, but that of a tally, is followed by the length of its memory, counted in elements. The memory is aligned for them. The pointer
-   isn't null, even where the length is 0. Memory that a call writes overlaps nothing else that the call is lent. No call allocates memory
-   or keeps any state, so calls on memory of their own may run side by side.
+   Every call is settled for whatever it is handed: it answers, or it refuses with a number and writes nothing. What no proof can see is up to
+   the caller:
+   - A pointer, but that of a tally, is followed by the length of its memory, counted in elements. The memory is aligned for them.
+   - A pointer isn't null, even where the length is 0.
+   - Memory that a call writes overlaps nothing else that the call is lent.
+
+   No call allocates memory, keeps any state or asks the system for anything.
+
+   Threads: calls on memory of their own may run side by side. Any number of threads may look up in one table at once while nobody writes it.
+   So a host that edits or builds does that in a table that no thread reads, and then swaps: it stores the table's address in an atomic
+   pointer, which the lookups load anew for each packet or batch. It may write the old table once no thread can still be reading there.
+   tests/host/swap_example.c does so.
 
    An address is a number whose highest byte is the first octet: 10.64.0.1 is 0x0a400001, which is `ntohl` of a `s_addr`. */
 #ifndef WHELKHOLLOW_H
@@ -11,11 +20,41 @@
 #include <stddef.h>
 #include <stdint.h>
 
-#ifdef __cplusplus
-extern "C" {
+/* The version of this header, as text and as 10,000 x major + 100 x minor + patch. The major number goes up where a struct, a call or a
+   number changes for those who use it. */
+#define WHELK_VERSION "1.0.0"
+#define WHELK_VERSION_NUMBER 10000
+
+/* What a compiler that has these attributes is told: a call takes no null pointer and its answer is to be looked at; which memory a call
+   reads, fills without reading it, or changes, by the places of the pointer and the length among the parameters. */
+#define WHELK_CALL
+#define WHELK_READS(pointer, length)
+#define WHELK_FILLS(pointer, length)
+#define WHELK_CHANGES(pointer, length)
+#ifdef __has_attribute
+#if __has_attribute(nonnull) && __has_attribute(warn_unused_result)
+#undef WHELK_CALL
+#define WHELK_CALL __attribute__((nonnull, warn_unused_result))
+#endif
+#if __has_attribute(access)
+#undef WHELK_READS
+#undef WHELK_FILLS
+#undef WHELK_CHANGES
+#define WHELK_READS(pointer, length) __attribute__((access(read_only, pointer, length)))
+#define WHELK_FILLS(pointer, length) __attribute__((access(write_only, pointer, length)))
+#define WHELK_CHANGES(pointer, length) __attribute__((access(read_write, pointer, length)))
+#endif
 #endif
 
-/* What became of a call. A call with another number than 0 is refused: it writes nothing, and whatever else it returns is 0. */
+#ifdef __cplusplus
+#define WHELK_CAST(type, value) static_cast<type>(value)
+extern "C" {
+#else
+#define WHELK_CAST(type, value) ((type)(value))
+#endif
+
+/* What became of a call. A call with another number than 0 is refused: it writes nothing, and whatever else it returns is 0. Where more than
+   one fault is there, the number is the first of 15, 11, 14, 16, 17, 18, 19, 12, 13 that the call has. */
 enum whelk_number {
     WHELK_DONE = 0,           /* the call is done */
     WHELK_ILL_FORMED = 11,    /* the list or the half is ill-formed, or there are more runs than can be; in a run lookup, no runs too */
@@ -29,10 +68,49 @@ enum whelk_number {
     WHELK_OUTSIDE_PACKED = 19 /* a packed lookup has a width above 16, or would read outside its slices */
 };
 
+/* A call's number in words, for a log. Returns a text that stays, for any number. */
+static inline const char *whelk_number_text(size_t number)
+{
+    switch (number) {
+    case WHELK_DONE: return "done";
+    case WHELK_ILL_FORMED: return "the list, half or run table is ill-formed";
+    case WHELK_REPORT_SHORT: return "the report is shorter than the feed has rows";
+    case WHELK_NO_ROOM: return "the result doesn't fit what was lent";
+    case WHELK_NOT_ITS_RUNS: return "the run table is another than the list's";
+    case WHELK_BAD_EDIT: return "the edit names no prefix, or announces hop 0";
+    case WHELK_NOT_LISTED: return "the prefix to be withdrawn has no row";
+    case WHELK_BAD_SIZE: return "the size of the split is 0 or above the list's count";
+    case WHELK_NO_DEFAULT: return "a list without 0.0.0.0/0 can't be split";
+    case WHELK_OUTSIDE_PACKED: return "the address is outside the packed segment, or its width is above 16";
+    default: return "not a number of this library";
+    }
+}
+
+/* What became of a row of a feed, as a report or a pull says it. */
+enum whelk_row_number {
+    WHELK_ROW_TAKEN = 0,    /* its prefix and hop are in the list now; in a pull, a good row */
+    WHELK_ROW_SHAPE = 1,    /* it isn't `a.b.c.d/len hop` */
+    WHELK_ROW_RANGE = 2,    /* an octet is above 255, the length above 32, the hop 0 or above 65,535 */
+    WHELK_ROW_HOSTBITS = 3, /* a bit of the address beyond the length is 1 */
+    WHELK_ROW_REPEAT = 4,   /* an earlier row with the same prefix was taken */
+    WHELK_ROW_NOROOM = 5    /* the list is full */
+};
+
 /* A list has a count, keys and hops. The key of a prefix is network x 64 + length. Keys rise strictly, and hops are 1 to 65,535. A list is
    ill-formed if its count is above one of the lengths or above WHELK_TOP_ROWS, if keys don't rise, if a hop is 0, or if a key is no prefix: its
    length is above 32, its network is above 255.255.255.255, or a bit of its network beyond the length is 1. What an import leaves is never ill-formed. */
 #define WHELK_TOP_ROWS 1048576
+
+/* The network and the length of a key. */
+static inline uint32_t whelk_key_network(uint64_t key)
+{
+    return WHELK_CAST(uint32_t, key / 64);
+}
+
+static inline unsigned whelk_key_length(uint64_t key)
+{
+    return WHELK_CAST(unsigned, key % 64);
+}
 
 /* A run table cuts the addresses into runs with one hop each. A run goes from its start to the address before the next start, and the last one
    to 255.255.255.255. Hop 0 says that nothing matches. A list of n rows has at most 2n + 1 runs. */
@@ -50,15 +128,17 @@ struct whelk_counts {
     size_t noroom;
 };
 
-/* Imports a text feed into an empty list. A row is `a.b.c.d/len hop`. It ends with an LF, and the last one may end with the feed.
-   keys and hops get the list, in key order. The list's count is the taken count, and slots past it stay as they were. At most as many rows are
-   taken as the shorter of the two has slots, and at most WHELK_TOP_ROWS.
-   The report gets a number for each row: 0 taken, 1 shape, 2 range, 3 host bits, 4 repeat, 5 no room. Bytes past the rows stay as they were.
-   Lend one slot more than the feed has LFs, in the report and in keys and hops; that is always enough.
-   Returns number 0 and the counts, or 12 if the report is too short.
+/* Imports a text feed into an empty list. A row is `a.b.c.d/len hop`. It ends with an LF, and the last one may end with the feed. Each row is
+   taken or refused, and gets its number.
+   Lend one slot more than the feed has LFs in keys, in hops and in the report; that is always enough. At most as many rows are taken as the
+   shorter of keys and hops has slots, and at most WHELK_TOP_ROWS.
+   Returns number 0 and the counts; or 12 if the report has fewer bytes than the feed has rows.
+   Leaves the list in keys and hops, in key order, and the taken count is its count; and the number of each row in the report, an enum
+   whelk_row_number. Slots past them stay as they were.
    Sorted feeds: linear; unsorted: quadratic. A feed is sorted if its rows go by address, and by length where that is the same. */
 struct whelk_counts whelk_import(const uint8_t *feed, size_t feed_length, uint64_t *keys, size_t keys_length, uint16_t *hops,
-                                 size_t hops_length, uint8_t *report, size_t report_length);
+                                 size_t hops_length, uint8_t *report, size_t report_length)
+    WHELK_CALL WHELK_READS(1, 2) WHELK_FILLS(3, 4) WHELK_FILLS(5, 6) WHELK_FILLS(7, 8);
 
 /* The seven counts in memory that the caller lends, as in whelk_counts. */
 struct whelk_tally {
@@ -71,16 +151,18 @@ struct whelk_tally {
     size_t noroom;
 };
 
-/* Imports a text feed as whelk_import does, with the counts in a lent tally.
-   feed, keys, hops and report are as there. tally isn't null. It gets the counts of this feed, whatever it held before: it is cleared
-   before the first row, and then one is added for each row.
-   Returns the number: 0, or 12 if the report is too short. On 12 the tally stays as it was. */
+/* Imports a text feed as whelk_import does, with the counts in a lent tally. It is cleared before the first row, whatever it held, and then
+   one is added for each row.
+   Lend feed, keys, hops and report as there, and one tally.
+   Returns the number: 0, or 12 if the report has fewer bytes than the feed has rows.
+   Leaves the list and the report as there, and the counts of this feed in the tally. On 12 the tally stays as it was. */
 size_t whelk_import_tally(const uint8_t *feed, size_t feed_length, uint64_t *keys, size_t keys_length, uint16_t *hops, size_t hops_length,
-                          uint8_t *report, size_t report_length, struct whelk_tally *tally);
+                          uint8_t *report, size_t report_length, struct whelk_tally *tally)
+    WHELK_CALL WHELK_READS(1, 2) WHELK_FILLS(3, 4) WHELK_FILLS(5, 6) WHELK_FILLS(7, 8);
 
 /* What a pull returns. Look at found first: it is 1 if there is a row at the place, and 0 if not. number is the row's and not the call's,
-   since a pull is never refused: 0 for a good row, 1 shape, 2 range, 3 host bits. key and hop are those of a good row: its network is
-   key / 64 and its length key % 64. next is the place of the next pull. What isn't said is 0. */
+   since a pull is never refused: 0 for a good row, 1 shape, 2 range, 3 host bits. key and hop are those of a good row. next is the place of
+   the next pull. What isn't said is 0. */
 struct whelk_row {
     size_t found;
     size_t number;
@@ -89,60 +171,104 @@ struct whelk_row {
     size_t next;
 };
 
-/* Reads one row of a text feed, for hosts that take a row at a time. Begin with place 0, then hand in next, and stop where found is 0.
-   The row goes from place to the next LF, or to the feed's end. place may be any: inside a row, what is left of it is read as a row.
-   A row is read as in an import. But there is no list, so no row has number 4 or 5.
+/* Reads one row of a text feed, for hosts that take a row at a time: begin with place 0, then hand in next, and stop where found is 0. The row
+   goes from place to the next LF, or to the feed's end, and is read as in an import; but there is no list, so no row has number 4 or 5.
+   Lend the feed. place may be any: inside a row, what is left of it is read as a row.
    Returns the row, and as next the place behind its LF, or the feed's length where it has none. If place is the feed's length or more,
-   found is 0, and next is place. */
-struct whelk_row whelk_pull(const uint8_t *feed, size_t feed_length, size_t place);
-
-/* Of what a write returned: its number, and how many bytes the text has. */
-#define WHELK_WRITE_NUMBER(wrote) ((unsigned)((wrote) >> 32))
-#define WHELK_BYTES(wrote) ((size_t)((wrote)&4294967295u))
+   found is 0, and next is place.
+   Leaves all memory as it is. */
+struct whelk_row whelk_pull(const uint8_t *feed, size_t feed_length, size_t place) WHELK_CALL WHELK_READS(1, 2);
 
 /* A row is written with this many bytes at the most: `255.255.255.255/32 65535` and its LF. `0.0.0.0/0 1` has the fewest, 12. */
 #define WHELK_ROW_BYTES 25
 
 /* Writes a list as text: each row as `a.b.c.d/len hop` with an LF behind it, in the list's order, numbers without zeros in front. An import of
    the text that is lent a slot for each row leaves the same list.
-   buffer gets the text from its front, and bytes past it stay as they were. No zero byte is put behind it. Lend WHELK_ROW_BYTES x count bytes;
-   that is always enough.
-   Returns 4,294,967,296 x number + length of the text. The number is 0, 11 if the list is ill-formed, or 13 if the text is longer than the
-   buffer. */
+   Lend the list, and a buffer of WHELK_ROW_BYTES x count bytes; that is always enough.
+   Returns a number and how many bytes the text has, for the two functions below. The number is 0, 11 if the list is ill-formed, or 13 if the
+   text is longer than the buffer. (It is 4,294,967,296 x number + bytes.)
+   Leaves the text at the buffer's front, with no zero byte behind it. Bytes past it stay as they were. */
 uint64_t whelk_write(size_t count, const uint64_t *keys, size_t keys_length, const uint16_t *hops, size_t hops_length, uint8_t *buffer,
-                     size_t buffer_length);
+                     size_t buffer_length) WHELK_CALL WHELK_READS(2, 3) WHELK_READS(4, 5) WHELK_FILLS(6, 7);
 
-/* Of what a build returned: its number, and the count of runs. */
-#define WHELK_BUILD_NUMBER(built) ((unsigned)((built) >> 32))
-#define WHELK_RUNS(built) ((size_t)((built)&4294967295u))
+static inline unsigned whelk_write_number(uint64_t wrote)
+{
+    return WHELK_CAST(unsigned, wrote >> 32);
+}
+
+static inline size_t whelk_write_bytes(uint64_t wrote)
+{
+    return wrote & 4294967295u;
+}
 
 /* Builds the run table of a list.
-   starts and run_hops get the table, and slots past its count stay as they were. Lend 2 x count + 1 slots in each; that is always enough.
-   Returns 4,294,967,296 x number + count of runs. The number is 0, 11 if the list is ill-formed, or 13 if one of the two is too short. */
+   Lend the list, and 2 x count + 1 slots in starts and in run_hops; that is always enough.
+   Returns a number and the count of runs, for the two functions below. The number is 0, 11 if the list is ill-formed, or 13 if starts or
+   run_hops is too short. (It is 4,294,967,296 x number + runs.)
+   Leaves the table in starts and run_hops. Slots past its count stay as they were. */
 uint64_t whelk_build(size_t count, const uint64_t *keys, size_t keys_length, const uint16_t *hops, size_t hops_length, uint32_t *starts,
-                     size_t starts_length, uint16_t *run_hops, size_t run_hops_length);
+                     size_t starts_length, uint16_t *run_hops, size_t run_hops_length)
+    WHELK_CALL WHELK_READS(2, 3) WHELK_READS(4, 5) WHELK_FILLS(6, 7) WHELK_FILLS(8, 9);
 
-/* Of what a lookup returned: its number, and the hop. */
-#define WHELK_NUMBER(found) ((unsigned)((found) >> 16 & 65535))
-#define WHELK_HOP(found) ((unsigned)((found)&65535))
+static inline unsigned whelk_build_number(uint64_t built)
+{
+    return WHELK_CAST(unsigned, built >> 32);
+}
+
+static inline size_t whelk_build_runs(uint64_t built)
+{
+    return built & 4294967295u;
+}
+
+/* Says whether a run table is that of a list: its first `runs` runs are what a build would leave. It goes through all of both.
+   Lend the list and the table. Slots past their counts have no say.
+   Returns the number: 0, 11 if the list is ill-formed or `runs` is above one of the lengths or WHELK_TOP_RUNS, or 14 if the table is another.
+   Leaves all memory as it is. */
+size_t whelk_pair_check(size_t count, const uint64_t *keys, size_t keys_length, const uint16_t *hops, size_t hops_length, size_t runs,
+                        const uint32_t *starts, size_t starts_length, const uint16_t *run_hops, size_t run_hops_length)
+    WHELK_CALL WHELK_READS(2, 3) WHELK_READS(4, 5) WHELK_READS(7, 8) WHELK_READS(9, 10);
+
+/* Of what a lookup returned: its number, the hop or the label, and of whelk_run_lookup_slices how many starts were read. */
+static inline unsigned whelk_lookup_number(uint64_t found)
+{
+    return WHELK_CAST(unsigned, found >> 16 & 65535u);
+}
+
+static inline uint16_t whelk_lookup_hop(uint64_t found)
+{
+    return WHELK_CAST(uint16_t, found & 65535u);
+}
+
+static inline unsigned whelk_lookup_probes(uint64_t found)
+{
+    return WHELK_CAST(unsigned, found >> 32);
+}
 
 /* Looks an address up in the first `n` runs of a run table, by halving. The table is not checked: in one that no build left, the hop is that of
    the run which halving finds.
-   Returns 4,294,967,296 x probes + 65,536 x number + hop. The number is 0, or 11 if n is 0 or above one of the lengths. Probes says how many
-   starts were read. */
+   Lend the table.
+   Returns a number, a hop and the probes, for whelk_lookup_number, whelk_lookup_hop and whelk_lookup_probes. The number is 0, or 11 if n is 0
+   or above one of the lengths. (It is 4,294,967,296 x probes + 65,536 x number + hop.)
+   Leaves all memory as it is. */
 uint64_t whelk_run_lookup_slices(size_t n, const uint32_t *starts, size_t starts_length, const uint16_t *hops, size_t hops_length,
-                                 uint32_t address);
+                                 uint32_t address) WHELK_CALL WHELK_READS(2, 3) WHELK_READS(4, 5);
 
 /* Looks an address up in run bytes, by the same halving. A run has 6 bytes, 4 of its start and 2 of its hop, high byte first. The host writes
    them from a built table.
-   Returns 65,536 x number + hop. The number is 0, or 11 if the length is 0 or 6 doesn't divide it. */
-uint32_t whelk_run_lookup(const uint8_t *bytes, size_t length, uint32_t address);
+   Lend the bytes.
+   Returns a number and a hop, for whelk_lookup_number and whelk_lookup_hop. The number is 0, or 11 if the length is 0 or 6 doesn't divide it.
+   (It is 65,536 x number + hop.)
+   Leaves all memory as it is. */
+uint32_t whelk_run_lookup(const uint8_t *bytes, size_t length, uint32_t address) WHELK_CALL WHELK_READS(1, 2);
 
 /* Looks an address up in a list: the hop of the longest listed prefix that holds it, or 0. It checks the list and goes through all of it. To
    forward by, build a run table.
-   Returns 65,536 x number + hop. The number is 0, or 11 if the list is ill-formed. */
+   Lend the list.
+   Returns a number and a hop, for whelk_lookup_number and whelk_lookup_hop. The number is 0, or 11 if the list is ill-formed. (It is
+   65,536 x number + hop.)
+   Leaves all memory as it is. */
 uint32_t whelk_plain_lookup(size_t count, const uint64_t *keys, size_t keys_length, const uint16_t *hops, size_t hops_length,
-                            uint32_t address);
+                            uint32_t address) WHELK_CALL WHELK_READS(2, 3) WHELK_READS(4, 5);
 
 /* What a packing returns: its number, the width, how many words were written, which is how many bases were too, and how many hops. */
 struct whelk_packed {
@@ -156,25 +282,29 @@ struct whelk_packed {
 #define WHELK_TOP_WORDS 4096
 #define WHELK_TOP_HOPS 65536
 
-/* Packs segment q of a list: the 65,536 addresses whose first 16 bits are q. The list comes with its run table as a build left it, the
-   first `runs` runs of starts and run_hops. Both are checked, which goes through all of the list.
-   words, bases and packed_hops get the segment, and slots past its counts stay as they were. The width is the greatest length of a listed
-   prefix in the segment, less 16, and 0 if none is longer than 16. There is 1 word for a width of 0 to 3, and there are 2^(width - 4) for
-   a greater one. Lend WHELK_TOP_WORDS slots in words and in bases and WHELK_TOP_HOPS in packed_hops; that is always enough.
+/* Packs segment q of a list: the 65,536 addresses whose first 16 bits are q. The width is the greatest length of a listed prefix in the
+   segment, less 16, and 0 if none is longer than 16. There is 1 word for a width of 0 to 3, and there are 2^(width - 4) for a greater one.
+   Lend the list with its run table as a build left it, the first `runs` runs of starts and run_hops: both are checked, which goes through all
+   of the list. Lend WHELK_TOP_WORDS slots in words and in bases and WHELK_TOP_HOPS in packed_hops; that is always enough.
    Returns number 0, the width and both counts; or 11 if the list is ill-formed or `runs` is above one of the lengths or WHELK_TOP_RUNS, 14
-   if the run table is another than the list's, or 13 if one of the three is too short. */
+   if the run table is another than the list's, or 13 if one of the three is too short.
+   Leaves the segment in words, bases and packed_hops. Slots past its counts stay as they were. */
 struct whelk_packed whelk_pack(uint16_t q, size_t count, const uint64_t *keys, size_t keys_length, const uint16_t *hops, size_t hops_length,
                                size_t runs, const uint32_t *starts, size_t starts_length, const uint16_t *run_hops, size_t run_hops_length,
                                uint16_t *words, size_t words_length, uint16_t *bases, size_t bases_length, uint16_t *packed_hops,
-                               size_t packed_hops_length);
+                               size_t packed_hops_length)
+    WHELK_CALL WHELK_READS(3, 4) WHELK_READS(5, 6) WHELK_READS(8, 9) WHELK_READS(10, 11)
+    WHELK_FILLS(12, 13) WHELK_FILLS(14, 15) WHELK_FILLS(16, 17);
 
-/* Looks an address up in a packed segment, by the address's last 16 bits: that the segment is that of the first 16 is up to the caller.
-   The width and the lengths are what packing returned: width, words, words again and hops. The segment is not checked: in one that no
-   packing left, the hop is that of the place which its word and base give.
-   Returns 65,536 x number + hop. The number is 0, or 19 if the width is above 16 or there is no word, base or hop for the address. Number
-   0 with hop 0 says that nothing matches. */
+/* Looks an address up in a packed segment, by the address's last 16 bits: that the segment is that of the first 16 is up to the caller. The
+   segment is not checked: in one that no packing left, the hop is that of the place which its word and base give.
+   Lend the segment: the width and the lengths are what packing returned, width, words, words again and hops.
+   Returns a number and a hop, for whelk_lookup_number and whelk_lookup_hop. The number is 0, or 19 if the width is above 16 or there is no
+   word, base or hop for the address. Number 0 with hop 0 says that nothing matches. (It is 65,536 x number + hop.)
+   Leaves all memory as it is. */
 uint32_t whelk_packed_lookup(uint32_t width, const uint16_t *words, size_t words_length, const uint16_t *bases, size_t bases_length,
-                             const uint16_t *hops, size_t hops_length, uint32_t address);
+                             const uint16_t *hops, size_t hops_length, uint32_t address)
+    WHELK_CALL WHELK_READS(2, 3) WHELK_READS(4, 5) WHELK_READS(6, 7);
 
 /* What an edit returns: its number, how many addresses have another hop than before, and the new counts of rows and of runs. The changed
    number is 4,294,967,296 at the most. Look at the number first: on a refusal the rest is 0, and the list and the run table keep the counts
@@ -187,63 +317,85 @@ struct whelk_edit {
 };
 
 /* Announces one route: a prefix that isn't listed gets a row with the hop, and a listed one's row gets the hop. The run table follows.
-   The prefix is network/length. The list comes with its run table as a build or an edit left it, the first `runs` runs of starts and
-   run_hops. Both are checked, which goes through all of the list.
-   keys and hops get the edited list, and starts and run_hops its run table, in each slot below their counts what a build would give.
-   Where a count is smaller than before, the slots that only the old one reached hold 0. Slots past both counts stay as they were.
-   Lend count + 1 slots in keys and hops, and 2 x count + 3 in starts and run_hops; for a list of fewer than WHELK_TOP_ROWS rows that is
-   always enough. A new hop can make many runs at once: rows inside the prefix that had the hop it had show as runs of their own.
+   Lend the list with its run table as a build or an edit left it, the first `runs` runs of starts and run_hops: both are checked, which goes
+   through all of the list. Lend count + 1 slots in keys and hops, and 2 x count + 3 in starts and run_hops; for a list of fewer than
+   WHELK_TOP_ROWS rows that is always enough. A new hop can make many runs at once: rows inside the prefix that had the hop it had show as
+   runs of their own. The prefix is network/length.
    Returns number 0, the changed number and both counts; or 15 if the length is above 32, a bit of the network beyond the length is 1 or
    the hop is 0, 11 if the list is ill-formed or `runs` is above one of the lengths or WHELK_TOP_RUNS, 14 if the run table is another
-   than the list's, or 13 if the edited list or its run table is longer than what was lent, or the list longer than WHELK_TOP_ROWS; where
-   more than one fits, the first. To announce a listed route with the hop that it has is 0, with 0 changed. */
+   than the list's, or 13 if the edited list or its run table is longer than what was lent, or the list longer than WHELK_TOP_ROWS. To
+   announce a listed route with the hop that it has is 0, with 0 changed.
+   Leaves the edited list in keys and hops and its run table in starts and run_hops, in each slot below their counts what a build would give.
+   Where a count is smaller than before, the slots that only the old one reached hold 0. Slots past both counts stay as they were. */
 struct whelk_edit whelk_announce(uint32_t network, uint32_t length, uint16_t hop, size_t count, uint64_t *keys, size_t keys_length,
                                  uint16_t *hops, size_t hops_length, size_t runs, uint32_t *starts, size_t starts_length,
-                                 uint16_t *run_hops, size_t run_hops_length);
+                                 uint16_t *run_hops, size_t run_hops_length)
+    WHELK_CALL WHELK_CHANGES(5, 6) WHELK_CHANGES(7, 8) WHELK_CHANGES(10, 11) WHELK_CHANGES(12, 13);
 
-/* Withdraws one route: the row of the prefix network/length goes out of the list, and the run table follows. What is handed in, checked
-   and left is as in an announcement.
-   Lend count slots in keys and hops, and 2 x count + 1 in starts and run_hops; that is always enough. There can be more runs than
-   before, and many more: rows inside the prefix or beside it that have its hop show as runs of their own.
+/* Withdraws one route: the row of the prefix network/length goes out of the list, and the run table follows.
+   Lend the list and its run table as for an announcement, but count slots in keys and hops, and 2 x count + 1 in starts and run_hops; that is
+   always enough. There can be more runs than before, and many more: rows inside the prefix or beside it that have its hop show as runs of
+   their own.
    Returns number 0, the changed number and both counts; or 15 if the length is above 32 or a bit of the network beyond the length is 1,
    11 if the list is ill-formed or `runs` is above one of the lengths or WHELK_TOP_RUNS, 14 if the run table is another than the list's,
-   16 if the prefix isn't listed, or 13 if the new run table is longer than what was lent; where more than one fits, the first. */
+   16 if the prefix isn't listed, or 13 if the new run table is longer than what was lent.
+   Leaves what an announcement leaves. */
 struct whelk_edit whelk_withdraw(uint32_t network, uint32_t length, size_t count, uint64_t *keys, size_t keys_length, uint16_t *hops,
                                  size_t hops_length, size_t runs, uint32_t *starts, size_t starts_length, uint16_t *run_hops,
-                                 size_t run_hops_length);
+                                 size_t run_hops_length)
+    WHELK_CALL WHELK_CHANGES(4, 5) WHELK_CHANGES(6, 7) WHELK_CHANGES(9, 10) WHELK_CHANGES(11, 12);
 
 /* A split makes two halves of a list, for two cores that each look up in one. A half is a list with labels in place of hops, and label 0 is
    no fault; all else that makes a list ill-formed makes a half so. The first half is the list's first k rows: hand in count k with the list's
    own keys and hops. The second is what whelk_split leaves. At every address, the label that the one gives XOR the label that the other gives
    is the list's hop, or 0 where nothing matches. That is so by whelk_half_lookup, and by run lookup in the tables that whelk_build_half leaves. */
 
-/* Of what a split returned: its number, and the count of the second half. */
-#define WHELK_SPLIT_NUMBER(split) ((unsigned)((split) >> 32))
-#define WHELK_HALF_COUNT(split) ((size_t)((split)&4294967295u))
-
-/* Splits a list after its first k rows. The list stays as it is.
-   half_keys and labels get the second half, which is 0.0.0.0/0 with label 0 and then the list's rows from place k on, and slots past its count
-   stay as they were. Lend count - k + 1 slots in each; it takes exactly so many.
-   Returns 4,294,967,296 x number + count of the second half. The number is 0, 11 if the list is ill-formed, 17 if k is 0 or above count, 18 if
-   0.0.0.0/0 isn't listed, or 13 if one of the two is too short; where more than one fits, the first. */
+/* Splits a list after its first k rows.
+   Lend the list, and count - k + 1 slots in half_keys and in labels; it takes exactly so many.
+   Returns a number and the count of the second half, for the two functions below. The number is 0, 11 if the list is ill-formed, 17 if k is 0
+   or above count, 18 if 0.0.0.0/0 isn't listed, or 13 if half_keys or labels is too short. (It is 4,294,967,296 x number + count.)
+   Leaves the second half in half_keys and labels: 0.0.0.0/0 with label 0 and then the list's rows from place k on. Slots past its count stay
+   as they were, and the list stays too. */
 uint64_t whelk_split(size_t k, size_t count, const uint64_t *keys, size_t keys_length, const uint16_t *hops, size_t hops_length,
-                     uint64_t *half_keys, size_t half_keys_length, uint16_t *labels, size_t labels_length);
+                     uint64_t *half_keys, size_t half_keys_length, uint16_t *labels, size_t labels_length)
+    WHELK_CALL WHELK_READS(3, 4) WHELK_READS(5, 6) WHELK_FILLS(7, 8) WHELK_FILLS(9, 10);
+
+static inline unsigned whelk_split_number(uint64_t split)
+{
+    return WHELK_CAST(unsigned, split >> 32);
+}
+
+static inline size_t whelk_split_count(uint64_t split)
+{
+    return split & 4294967295u;
+}
 
 /* Looks an address up in a half: the label of the longest prefix that holds it, or 0 if none does. It checks the half and goes through all of
    it. To forward by, build a run table of the half.
-   Returns 65,536 x number + label, which WHELK_NUMBER and WHELK_HOP read. The number is 0, or 11 if the half is ill-formed. */
+   Lend the half.
+   Returns a number and a label, for whelk_lookup_number and whelk_lookup_hop. The number is 0, or 11 if the half is ill-formed. (It is
+   65,536 x number + label.)
+   Leaves all memory as it is. */
 uint32_t whelk_half_lookup(size_t count, const uint64_t *keys, size_t keys_length, const uint16_t *labels, size_t labels_length,
-                           uint32_t address);
+                           uint32_t address) WHELK_CALL WHELK_READS(2, 3) WHELK_READS(4, 5);
 
 /* Builds the run table of a half, for run lookup to find labels in.
-   starts and run_labels get the table, and slots past its count stay as they were. Lend 2 x count + 1 slots in each; that is always enough.
-   Returns 4,294,967,296 x number + count of runs, which WHELK_BUILD_NUMBER and WHELK_RUNS read. The number is 0, 11 if the half is ill-formed,
-   or 13 if one of the two is too short. */
+   Lend the half, and 2 x count + 1 slots in starts and in run_labels; that is always enough.
+   Returns a number and the count of runs, for whelk_build_number and whelk_build_runs. The number is 0, 11 if the half is ill-formed, or 13 if
+   starts or run_labels is too short. (It is 4,294,967,296 x number + runs.)
+   Leaves the table in starts and run_labels. Slots past its count stay as they were. */
 uint64_t whelk_build_half(size_t count, const uint64_t *keys, size_t keys_length, const uint16_t *labels, size_t labels_length,
-                          uint32_t *starts, size_t starts_length, uint16_t *run_labels, size_t run_labels_length);
+                          uint32_t *starts, size_t starts_length, uint16_t *run_labels, size_t run_labels_length)
+    WHELK_CALL WHELK_READS(2, 3) WHELK_READS(4, 5) WHELK_FILLS(6, 7) WHELK_FILLS(8, 9);
 
 #ifdef __cplusplus
 }
 #endif
+
+#undef WHELK_CALL
+#undef WHELK_READS
+#undef WHELK_FILLS
+#undef WHELK_CHANGES
+#undef WHELK_CAST
 
 #endif

@@ -110,8 +110,8 @@ static int print_list(size_t count, const uint64_t *keys, const uint16_t *hops)
     uint8_t *text = malloc(room);
     if (!text) return fail("the list", strerror(ENOMEM));
     uint64_t wrote = whelk_write(count, keys, count, hops, count, text, room);
-    if (WHELK_WRITE_NUMBER(wrote) != WHELK_DONE) return fail("the list", "it can't be written as text");
-    fwrite(text, 1, WHELK_BYTES(wrote), stdout);
+    if (whelk_write_number(wrote) != WHELK_DONE) return fail("the list", "it can't be written as text");
+    fwrite(text, 1, whelk_write_bytes(wrote), stdout);
     free(text);
     return sent(stdout, "standard output");
 }

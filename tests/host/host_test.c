@@ -95,6 +95,38 @@ static void builds(void)
     check("an ill-formed list is 11", whelk_build(2, keys, 7, five_hop, 1, starts, 16, runs, 16) == (uint64_t)11 << 32);
 }
 
+/* Rules 8.1 to 8.4, over the run table of 10.0.0.0/8 with 10.64.0.0/10 inside. */
+static void pairs(void)
+{
+    const uint64_t keys[3] = {key(10, 0, 0, 0, 8), key(10, 64, 0, 0, 10), 77};
+    const uint16_t hops[3] = {7, 9, 88}, run_hops[6] = {0, 7, 9, 7, 0, 5}, swapped[6] = {0, 7, 9, 9, 0, 5};
+    const uint32_t starts[6] = {0, 0x0a000000, 0x0a400000, 0x0a800000, 0x0b000000, 5};
+    check("a list and its run table", whelk_pair_check(2, keys, 3, hops, 3, 5, starts, 6, run_hops, 6) == 0);
+    check("a run more is 14", whelk_pair_check(2, keys, 3, hops, 3, 6, starts, 6, run_hops, 6) == 14);
+    check("a run less is 14", whelk_pair_check(2, keys, 3, hops, 3, 4, starts, 6, run_hops, 6) == 14);
+    check("no runs is 14", whelk_pair_check(2, keys, 3, hops, 3, 0, starts, 6, run_hops, 6) == 14);
+    check("another hop is 14", whelk_pair_check(2, keys, 3, hops, 3, 5, starts, 6, swapped, 6) == 14);
+    check("another list is 14", whelk_pair_check(1, keys, 3, hops, 3, 5, starts, 6, run_hops, 6) == 14);
+    check("an ill-formed list is 11", whelk_pair_check(3, keys, 3, hops, 3, 5, starts, 6, run_hops, 6) == 11);
+    check("runs beyond a slice are 11", whelk_pair_check(2, keys, 3, hops, 3, 5, starts, 6, run_hops, 4) == 11);
+    check("more runs than can be are 11", whelk_pair_check(2, keys, 3, hops, 3, WHELK_TOP_RUNS + 1, starts, 6, run_hops, 6) == 11);
+}
+
+/* Each number has words of its own, and whatever else has the same. */
+static void texts(void)
+{
+    const size_t numbers[] = {0, 11, 12, 13, 14, 15, 16, 17, 18, 19, 20};
+    size_t n = sizeof numbers / sizeof *numbers;
+    int differ = 1;
+    for (size_t i = 0; i < n; i++)
+        for (size_t j = 0; j < i; j++) differ &= strcmp(whelk_number_text(numbers[i]), whelk_number_text(numbers[j])) != 0;
+    check("each number has its text", differ);
+    check("no other number has one", strcmp(whelk_number_text(10), whelk_number_text(20)) == 0 &&
+                                         strcmp(whelk_number_text(SIZE_MAX), whelk_number_text(20)) == 0);
+    uint64_t last = key(255, 255, 255, 255, 32);
+    check("a key's parts", whelk_key_network(last) == 0xffffffff && whelk_key_length(last) == 32);
+}
+
 static int gave(struct whelk_edit e, size_t number, uint64_t changed, size_t count, size_t runs)
 {
     return e.number == number && e.changed == changed && e.count == count && e.runs == runs;
@@ -164,6 +196,8 @@ int main(void)
     many();
     lookups();
     builds();
+    pairs();
+    texts();
     edits();
     return finish();
 }

@@ -118,7 +118,7 @@ static struct whelk_packed expected(uint32_t q)
         for (i = 1; i < size; i++) same("a block of two hops", painted[t * size + i], painted[t * size]);
         if (t % 16 == 0) good_bases[t / 16] = (uint16_t)ones;
         if (t > 0 && painted[t * size] == painted[t * size - 1]) continue;
-        good_words[t / 16] |= 0x8000 >> t % 16;
+        good_words[t / 16] |= (uint16_t)(0x8000 >> t % 16);
         good_hops[ones++] = painted[t * size];
     }
     e.hops = ones;
@@ -453,7 +453,7 @@ static void damaged(void)
         h = p.hops;
         switch (k % 7) {
         case 0: width = below(21); break;
-        case 1: words[below((uint32_t)w)] ^= 0x8000 >> below(16); break;
+        case 1: words[below((uint32_t)w)] ^= (uint16_t)(0x8000 >> below(16)); break;
         case 2: bases[below((uint32_t)b)] = (uint16_t)any(); break;
         case 3: w--; break;
         case 4: b--; break;

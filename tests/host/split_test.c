@@ -208,8 +208,8 @@ static size_t split_at(size_t k)
         wipe(all);
         got = split_into(k, i == 1 ? all : n, i == 2 ? all : n);
         same("what a split returns", got, n);
-        same("its number", WHELK_SPLIT_NUMBER(got), WHELK_DONE);
-        same("its count", WHELK_HALF_COUNT(got), count - k + 1);
+        same("its number", whelk_split_number(got), WHELK_DONE);
+        same("its count", whelk_split_count(got), count - k + 1);
         same("keys", (uint64_t)memcmp(half_keys, good_keys, all * sizeof half_keys[0]), 0);
         same("labels", (uint64_t)memcmp(labels, good_labels, all * sizeof labels[0]), 0);
     }

@@ -28,12 +28,12 @@ static void *forward(void *argument)
     struct core *c = argument;
     uint64_t built =
         whelk_build_half(c->count, c->keys, c->count, c->labels, c->count, c->starts, 2 * FIRST + 1, c->run_labels, 2 * FIRST + 1);
-    size_t i, runs = WHELK_RUNS(built);
-    c->refused = WHELK_BUILD_NUMBER(built) != WHELK_DONE;
+    size_t i, runs = whelk_build_runs(built);
+    c->refused = whelk_build_number(built) != WHELK_DONE;
     for (i = 0; i < ADDRESSES && !c->refused; i++) {
         uint64_t found = whelk_run_lookup_slices(runs, c->starts, runs, c->run_labels, runs, queue[i]);
-        c->refused = WHELK_NUMBER(found) != WHELK_DONE;
-        c->found[i] = (uint16_t)WHELK_HOP(found);
+        c->refused = whelk_lookup_number(found) != WHELK_DONE;
+        c->found[i] = whelk_lookup_hop(found);
     }
     return NULL;
 }
@@ -76,11 +76,11 @@ int main(void)
     fill_queue();
 
     split = whelk_split(FIRST, ROWS, keys, ROWS, hops, ROWS, half_keys, SECOND, labels, SECOND);
-    if (WHELK_SPLIT_NUMBER(split) != WHELK_DONE) return 1;
+    if (whelk_split_number(split) != WHELK_DONE) return 1;
     cores[0].count = FIRST; /* the first half is the list's first rows, where they are */
     cores[0].keys = keys;
     cores[0].labels = hops;
-    cores[1].count = WHELK_HALF_COUNT(split);
+    cores[1].count = whelk_split_count(split);
     cores[1].keys = half_keys;
     cores[1].labels = labels;
     for (i = 0; i < 2; i++)
@@ -89,11 +89,11 @@ int main(void)
         if (pthread_join(threads[i], NULL) != 0 || cores[i].refused) return 1;
 
     built = whelk_build(ROWS, keys, ROWS, hops, ROWS, starts, 2 * ROWS + 1, run_hops, 2 * ROWS + 1);
-    runs = WHELK_RUNS(built);
-    if (WHELK_BUILD_NUMBER(built) != WHELK_DONE) return 1;
+    runs = whelk_build_runs(built);
+    if (whelk_build_number(built) != WHELK_DONE) return 1;
     for (i = 0; i < ADDRESSES; i++) {
         uint64_t found = whelk_run_lookup_slices(runs, starts, runs, run_hops, runs, queue[i]);
-        if (WHELK_NUMBER(found) == WHELK_DONE && (cores[0].found[i] ^ cores[1].found[i]) == (int)WHELK_HOP(found)) agreed++;
+        if (whelk_lookup_number(found) == WHELK_DONE && (cores[0].found[i] ^ cores[1].found[i]) == (int)whelk_lookup_hop(found)) agreed++;
     }
     printf("%zu rows and %zu, %zu addresses of %d agree\n", cores[0].count, cores[1].count, agreed, ADDRESSES);
     return agreed == ADDRESSES ? 0 : 1;

@@ -90,7 +90,7 @@ static int gives(const char *text)
     uint64_t wrote;
     wipe();
     wrote = write_into(sizeof buffer);
-    return WHELK_WRITE_NUMBER(wrote) == WHELK_DONE && WHELK_BYTES(wrote) == n && memcmp(buffer, text, n) == 0 &&
+    return whelk_write_number(wrote) == WHELK_DONE && whelk_write_bytes(wrote) == n && memcmp(buffer, text, n) == 0 &&
            untouched(buffer + n, sizeof buffer - n);
 }
 

@@ -1,5 +1,5 @@
 -- What C gets from an import, a pull, a build, a packing, an edit, a list writer and a split is settled: two outcomes that keep the promise
--- for one input are the same, in what is returned and in each lent slice. The lookups promise an equation.
+-- for one input are the same, in what is returned and in each lent slice. The lookups and the pair check promise an equation.
 -- Assumes nothing.
 use mathlib.Core.Path.{_≡_, sym, ap, _∙_}
 use mathlib.Core.List.{List}

@@ -1,5 +1,6 @@
 // The C interface: the library's entries over memory that the host lends, each with one number or one plain struct back. It adds no rule of
 // its own; include/whelkhollow.h declares what is exported here.
+pub mod checks;
 pub mod edits;
 pub mod rows;
 
