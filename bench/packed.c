@@ -42,8 +42,8 @@ static uint64_t packed_in_c_by_runs(void) ALL_SEGMENTS(c_pack_by_runs)
 /* One segment, of as many blocks as there can be. */
 #define ONE_SEGMENT(pack)                                                                                                         \
     {                                                                                                                             \
-        struct whelk_packed p = pack_part(pack, 0, arena, WHELK_TOP_WORDS, arena + WHELK_TOP_WORDS, WHELK_TOP_WORDS,              \
-                                          arena + 2 * WHELK_TOP_WORDS, WHELK_TOP_HOPS);                                           \
+        struct whelk_packed p = pack_part(pack, 0, arena, WHELK_PACKED_WORDS, arena + WHELK_PACKED_WORDS, WHELK_PACKED_WORDS,              \
+                                          arena + 2 * WHELK_PACKED_WORDS, WHELK_PACKED_HOPS);                                           \
         return p.number + 3 * p.width + 5 * p.words + 7 * p.hops + 11 * written(arena, arena_length * sizeof arena[0]);           \
     }
 
@@ -69,7 +69,7 @@ int main(void)
     for (n = 0; n < 1000; n++) keys[n] = (uint64_t)(65 * n) << 6 | 32;
     part_list(keys, hops, n);
     free(arena);
-    arena_length = 2 * WHELK_TOP_WORDS + WHELK_TOP_HOPS;
+    arena_length = 2 * WHELK_PACKED_WORDS + WHELK_PACKED_HOPS;
     arena = calloc(arena_length, sizeof arena[0]);
     row("packing, each block", n, "one", one, one_in_c, 65536);
     row("packing, C by runs", n, "one", one, one_in_c_by_runs, 65536);

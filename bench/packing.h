@@ -101,11 +101,11 @@ static inline struct whelk_packed pack_part(packing *pack, size_t q, uint16_t *w
 /* The index, and an arena as long as all packed segments together. */
 static inline void lay_out(void)
 {
-    static uint16_t words[WHELK_TOP_WORDS], bases[WHELK_TOP_WORDS], packed_hops[WHELK_TOP_HOPS];
+    static uint16_t words[WHELK_PACKED_WORDS], bases[WHELK_PACKED_WORDS], packed_hops[WHELK_PACKED_HOPS];
     size_t q;
     arena_length = blocks = 0;
     for (q = 0; q < SEGMENTS; q++) {
-        struct whelk_packed p = pack_part(our_pack, q, words, WHELK_TOP_WORDS, bases, WHELK_TOP_WORDS, packed_hops, WHELK_TOP_HOPS);
+        struct whelk_packed p = pack_part(our_pack, q, words, WHELK_PACKED_WORDS, bases, WHELK_PACKED_WORDS, packed_hops, WHELK_PACKED_HOPS);
         if (p.number != 0) {
             printf("segment %lu: packing is refused, %lu\n", (unsigned long)q, (unsigned long)p.number);
             exit(1);

@@ -1,19 +1,20 @@
-/* Whelkhollow for C: IPv4 route lists, from a feed's text to the hop of an address. docs/RULES.md has all rules, and README.md how to link.
+/* Whelkhollow for C: IPv4 route lists, from a feed's text to the hop of an address. For C99 and C++98 on, on x86-64 Linux. README.md says how
+   to link, and docs/RULES.md has all rules.
 
-   Every call is settled for whatever it is handed: it answers, or it refuses with a number and writes nothing. What no proof can see is up to
-   the caller:
-   - A pointer, but that of a tally, is followed by the length of its memory, counted in elements. The memory is aligned for them.
-   - A pointer isn't null, even where the length is 0.
+   Any values may be handed in: a call answers, or it refuses with a number and writes nothing. The caller sees to this:
+   - Each pointer parameter but `tally` is followed by the length of its memory, counted in elements. The memory is aligned for them.
+   - A pointer isn't null, even where the length is 0. `malloc(0)` and an empty `std::vector` may give null: hand in the address of any object
+     instead. Test for null before the call; behind it the compiler may leave the test out.
    - Memory that a call writes overlaps nothing else that the call is lent.
 
    No call allocates memory, keeps any state or asks the system for anything.
 
-   Threads: calls on memory of their own may run side by side. Any number of threads may look up in one table at once while nobody writes it.
-   So a host that edits or builds does that in a table that no thread reads, and then swaps: it stores the table's address in an atomic
-   pointer, which the lookups load anew for each packet or batch. It may write the old table once no thread can still be reading there.
-   tests/host/swap_example.c does so.
+   Threads: calls may run side by side if none writes memory that another is lent. So any number of threads may read one feed, list, run table
+   or segment while no call writes it. To change routes under running lookups, keep a list and its run table with their counts in one struct,
+   and edit or build in a struct that no thread reads. Then store its address in an atomic pointer, which the lookups load for each packet or
+   batch. Write the old struct only when no thread can still hold its address. tests/host/swap_example.c does so.
 
-   An address is a number whose highest byte is the first octet: 10.64.0.1 is 0x0a400001, which is `ntohl` of a `s_addr`. */
+   An address is a number whose highest byte is the first octet: 10.64.0.1 is 0x0a400001, which is `ntohl` of an `s_addr`. */
 #ifndef WHELKHOLLOW_H
 #define WHELKHOLLOW_H
 
@@ -21,12 +22,13 @@
 #include <stdint.h>
 
 /* The version of this header, as text and as 10,000 x major + 100 x minor + patch. The major number goes up where a struct, a call or a
-   number changes for those who use it. */
+   number changes for those who use it. Nothing checks it against the archive: take both from one place. */
 #define WHELK_VERSION "1.0.0"
 #define WHELK_VERSION_NUMBER 10000
 
 /* What a compiler that has these attributes is told: a call takes no null pointer and its answer is to be looked at; which memory a call
-   reads, fills without reading it, or changes, by the places of the pointer and the length among the parameters. */
+   reads, fills without reading it, or changes, by the places of the pointer and the length among the parameters. gcc may then warn of an empty
+   list in memory that was never written, though none of it is read: lend length 0, or clear it. */
 #define WHELK_CALL
 #define WHELK_READS(pointer, length)
 #define WHELK_FILLS(pointer, length)
@@ -53,11 +55,15 @@ extern "C" {
 #define WHELK_CAST(type, value) ((type)(value))
 #endif
 
-/* What became of a call. A call with another number than 0 is refused: it writes nothing, and whatever else it returns is 0. Where more than
-   one fault is there, the number is the first of 15, 11, 14, 16, 17, 18, 19, 12, 13 that the call has. */
+/* What became of a call. A call with another number than 0 is refused: it writes nothing, and whatever else it returns is 0. So look at the
+   number first: a refused lookup has hop 0 too, as one that finds nothing has. Where more than one fault is there, the number is the first of
+   15, 11, 14, 16, 17, 18, 19, 12, 13 that the call has.
+   Some calls return their number and another one in one integer. Read it only by the functions that the call's comment names: those of
+   another call can give 0, which looks like done. */
 enum whelk_number {
     WHELK_DONE = 0,           /* the call is done */
-    WHELK_ILL_FORMED = 11,    /* the list or the half is ill-formed, or there are more runs than can be; in a run lookup, no runs too */
+    WHELK_ILL_FORMED = 11,    /* a list or a half is ill-formed; a count of runs is above a length or WHELK_TOP_RUNS; a run lookup
+                                 has no runs, or bytes that 6 doesn't divide */
     WHELK_REPORT_SHORT = 12,  /* the feed has more rows than the report has bytes */
     WHELK_NO_ROOM = 13,       /* the result doesn't fit what was lent */
     WHELK_NOT_ITS_RUNS = 14,  /* the run table is another than the list's */
@@ -65,15 +71,15 @@ enum whelk_number {
     WHELK_NOT_LISTED = 16,    /* a prefix that is to be withdrawn has no row */
     WHELK_BAD_SIZE = 17,      /* a split has size 0, or a size above the list's count */
     WHELK_NO_DEFAULT = 18,    /* a list without 0.0.0.0/0 can't be split */
-    WHELK_OUTSIDE_PACKED = 19 /* a packed lookup has a width above 16, or would read outside its slices */
+    WHELK_OUTSIDE_PACKED = 19 /* a packed lookup has a width above 16, or no word, base or hop for the address */
 };
 
-/* A call's number in words, for a log. Returns a text that stays, for any number. */
+/* A call's number in words, for a log. Any number may be handed in; the text is constant. */
 static inline const char *whelk_number_text(size_t number)
 {
     switch (number) {
     case WHELK_DONE: return "done";
-    case WHELK_ILL_FORMED: return "the list, half or run table is ill-formed";
+    case WHELK_ILL_FORMED: return "the list, half or run table is ill-formed, or has no runs";
     case WHELK_REPORT_SHORT: return "the report is shorter than the feed has rows";
     case WHELK_NO_ROOM: return "the result doesn't fit what was lent";
     case WHELK_NOT_ITS_RUNS: return "the run table is another than the list's";
@@ -81,27 +87,49 @@ static inline const char *whelk_number_text(size_t number)
     case WHELK_NOT_LISTED: return "the prefix to be withdrawn has no row";
     case WHELK_BAD_SIZE: return "the size of the split is 0 or above the list's count";
     case WHELK_NO_DEFAULT: return "a list without 0.0.0.0/0 can't be split";
-    case WHELK_OUTSIDE_PACKED: return "the address is outside the packed segment, or its width is above 16";
-    default: return "not a number of this library";
+    case WHELK_OUTSIDE_PACKED: return "the packed segment has no word, base or hop for the address, or its width is above 16";
+    default: return "a number that no call returns";
     }
 }
 
 /* What became of a row of a feed, as a report or a pull says it. */
 enum whelk_row_number {
     WHELK_ROW_TAKEN = 0,    /* its prefix and hop are in the list now; in a pull, a good row */
-    WHELK_ROW_SHAPE = 1,    /* it isn't `a.b.c.d/len hop` */
-    WHELK_ROW_RANGE = 2,    /* an octet is above 255, the length above 32, the hop 0 or above 65,535 */
+    WHELK_ROW_SHAPE = 1,    /* it isn't `a.b.c.d/len hop`, with 1 to 3 digits for an octet, 1 or 2 for the length and 1 to 5 for the hop; an empty
+                               row, a CR, a tab and a second space are wrong too. Zeros in front are fine, and 010 is ten */
+    WHELK_ROW_RANGE = 2,    /* its shape is right, but an octet is above 255, the length above 32, the hop 0 or above 65,535 */
     WHELK_ROW_HOSTBITS = 3, /* a bit of the address beyond the length is 1 */
     WHELK_ROW_REPEAT = 4,   /* an earlier row with the same prefix was taken */
     WHELK_ROW_NOROOM = 5    /* the list is full */
 };
 
-/* A list has a count, keys and hops. The key of a prefix is network x 64 + length. Keys rise strictly, and hops are 1 to 65,535. A list is
-   ill-formed if its count is above one of the lengths or above WHELK_TOP_ROWS, if keys don't rise, if a hop is 0, or if a key is no prefix: its
-   length is above 32, its network is above 255.255.255.255, or a bit of its network beyond the length is 1. What an import leaves is never ill-formed. */
-#define WHELK_TOP_ROWS 1048576
+/* A row's number in a word: what its count is called. Any number may be handed in; the text is constant. */
+static inline const char *whelk_row_number_text(size_t number)
+{
+    switch (number) {
+    case WHELK_ROW_TAKEN: return "taken";
+    case WHELK_ROW_SHAPE: return "shape";
+    case WHELK_ROW_RANGE: return "range";
+    case WHELK_ROW_HOSTBITS: return "hostbits";
+    case WHELK_ROW_REPEAT: return "repeat";
+    case WHELK_ROW_NOROOM: return "noroom";
+    default: return "a number that no row has";
+    }
+}
 
-/* The network and the length of a key. */
+/* A list has a count, keys and hops, and a row of it is the key and the hop at one place below the count. The key of a prefix is
+   network x 64 + length. Keys rise strictly, and hops are 1 to 65,535. A list is ill-formed if its count is above keys_length, hops_length or
+   WHELK_TOP_ROWS, if keys don't rise, if a hop is 0, or if a key is no prefix: the prefix's length is above 32, its network is above
+   255.255.255.255, or a bit of its network beyond the length is 1. What an import leaves is never ill-formed. */
+#define WHELK_TOP_ROWS 1048576 /* the most rows of a list */
+
+/* The key of network/length. It doesn't test that this is a prefix. */
+static inline uint64_t whelk_key(uint32_t network, unsigned length)
+{
+    return WHELK_CAST(uint64_t, network) * 64 + length;
+}
+
+/* The network and the length of a key. For a number that is no key they mean nothing. */
 static inline uint32_t whelk_key_network(uint64_t key)
 {
     return WHELK_CAST(uint32_t, key / 64);
@@ -112,9 +140,10 @@ static inline unsigned whelk_key_length(uint64_t key)
     return WHELK_CAST(unsigned, key % 64);
 }
 
-/* A run table cuts the addresses into runs with one hop each. A run goes from its start to the address before the next start, and the last one
-   to 255.255.255.255. Hop 0 says that nothing matches. A list of n rows has at most 2n + 1 runs. */
-#define WHELK_TOP_RUNS 2097153
+/* A run table cuts the addresses into runs with one hop each. It has a count, starts and hops. A run goes from its start to the address before
+   the next start, and the last one to 255.255.255.255. The first start is 0.0.0.0, and neighbours have different hops. Hop 0 says that nothing
+   matches. A list of n rows has at most 2n + 1 runs, and an empty list has one, with hop 0: build it before the first announcement. */
+#define WHELK_TOP_RUNS 2097153 /* the most runs of a run table */
 
 /* What an import returns: its number, and seven counts. rows is the sum of the six others. */
 struct whelk_counts {
@@ -128,14 +157,14 @@ struct whelk_counts {
     size_t noroom;
 };
 
-/* Imports a text feed into an empty list. A row is `a.b.c.d/len hop`. It ends with an LF, and the last one may end with the feed. Each row is
-   taken or refused, and gets its number.
-   Lend one slot more than the feed has LFs in keys, in hops and in the report; that is always enough. At most as many rows are taken as the
-   shorter of keys and hops has slots, and at most WHELK_TOP_ROWS.
+/* Imports a text feed as a new list. A row is `a.b.c.d/len hop`. It ends with an LF, and the last one may end with the feed. Each row is taken or
+   refused, and gets its number. Time: linear if the rows go by address as a number, and by length where that is the same; quadratic if not.
+   (A sort of the text isn't that order: it puts 100.0.0.0 before 20.0.0.0.)
+   Lend keys, hops and report with one slot more than the feed has LFs; that is always enough. What they held doesn't matter. At most as many
+   rows are taken as the shorter of keys and hops has slots, and at most WHELK_TOP_ROWS.
    Returns number 0 and the counts; or 12 if the report has fewer bytes than the feed has rows.
    Leaves the list in keys and hops, in key order, and the taken count is its count; and the number of each row in the report, an enum
-   whelk_row_number. Slots past them stay as they were.
-   Sorted feeds: linear; unsorted: quadratic. A feed is sorted if its rows go by address, and by length where that is the same. */
+   whelk_row_number. Slots past them stay as they were. */
 struct whelk_counts whelk_import(const uint8_t *feed, size_t feed_length, uint64_t *keys, size_t keys_length, uint16_t *hops,
                                  size_t hops_length, uint8_t *report, size_t report_length)
     WHELK_CALL WHELK_READS(1, 2) WHELK_FILLS(3, 4) WHELK_FILLS(5, 6) WHELK_FILLS(7, 8);
@@ -151,8 +180,8 @@ struct whelk_tally {
     size_t noroom;
 };
 
-/* Imports a text feed as whelk_import does, with the counts in a lent tally. It is cleared before the first row, whatever it held, and then
-   one is added for each row.
+/* Imports a text feed as whelk_import does, with the counts in a lent tally, which goes up as rows go by. They are this feed's alone: the tally
+   is cleared before the first row.
    Lend feed, keys, hops and report as there, and one tally.
    Returns the number: 0, or 12 if the report has fewer bytes than the feed has rows.
    Leaves the list and the report as there, and the counts of this feed in the tally. On 12 the tally stays as it was. */
@@ -167,7 +196,7 @@ struct whelk_row {
     size_t found;
     size_t number;
     uint64_t key;
-    size_t hop;
+    uint16_t hop;
     size_t next;
 };
 
@@ -220,7 +249,7 @@ static inline size_t whelk_build_runs(uint64_t built)
     return built & 4294967295u;
 }
 
-/* Says whether a run table is that of a list: its first `runs` runs are what a build would leave. It goes through all of both.
+/* Says whether a run table is that of a list: its first `runs` runs are what a build would leave. Time: linear in the list.
    Lend the list and the table. Slots past their counts have no say.
    Returns the number: 0, 11 if the list is ill-formed or `runs` is above one of the lengths or WHELK_TOP_RUNS, or 14 if the table is another.
    Leaves all memory as it is. */
@@ -228,7 +257,7 @@ size_t whelk_pair_check(size_t count, const uint64_t *keys, size_t keys_length, 
                         const uint32_t *starts, size_t starts_length, const uint16_t *run_hops, size_t run_hops_length)
     WHELK_CALL WHELK_READS(2, 3) WHELK_READS(4, 5) WHELK_READS(7, 8) WHELK_READS(9, 10);
 
-/* Of what a lookup returned: its number, the hop or the label, and of whelk_run_lookup_slices how many starts were read. */
+/* The parts of what a lookup returned: its number, the hop or the label, and of whelk_run_lookup_slices alone how many starts were read. */
 static inline unsigned whelk_lookup_number(uint64_t found)
 {
     return WHELK_CAST(unsigned, found >> 16 & 65535u);
@@ -244,25 +273,25 @@ static inline unsigned whelk_lookup_probes(uint64_t found)
     return WHELK_CAST(unsigned, found >> 32);
 }
 
-/* Looks an address up in the first `n` runs of a run table, by halving. The table is not checked: in one that no build left, the hop is that of
-   the run which halving finds.
-   Lend the table.
-   Returns a number, a hop and the probes, for whelk_lookup_number, whelk_lookup_hop and whelk_lookup_probes. The number is 0, or 11 if n is 0
-   or above one of the lengths. (It is 4,294,967,296 x probes + 65,536 x number + hop.)
+/* Looks an address up in the first `runs` runs of a run table, by halving. The table is not checked: in one that no build left, the hop is that
+   of the run which halving finds.
+   Lend the table as a build or an edit left it.
+   Returns a number, a hop and the probes, for whelk_lookup_number, whelk_lookup_hop and whelk_lookup_probes. The number is 0, or 11 if `runs` is
+   0 or above one of the lengths. Number 0 with hop 0 says that nothing matches. (It is 4,294,967,296 x probes + 65,536 x number + hop.)
    Leaves all memory as it is. */
-uint64_t whelk_run_lookup_slices(size_t n, const uint32_t *starts, size_t starts_length, const uint16_t *hops, size_t hops_length,
-                                 uint32_t address) WHELK_CALL WHELK_READS(2, 3) WHELK_READS(4, 5);
+uint64_t whelk_run_lookup_slices(size_t runs, const uint32_t *starts, size_t starts_length, const uint16_t *run_hops,
+                                 size_t run_hops_length, uint32_t address) WHELK_CALL WHELK_READS(2, 3) WHELK_READS(4, 5);
 
-/* Looks an address up in run bytes, by the same halving. A run has 6 bytes, 4 of its start and 2 of its hop, high byte first. The host writes
-   them from a built table.
+/* Looks an address up in run bytes, by the same halving. They are not what a build leaves: a run has 6 bytes, 4 of its start and 2 of its hop,
+   high byte first, and the host writes them from a built table.
    Lend the bytes.
    Returns a number and a hop, for whelk_lookup_number and whelk_lookup_hop. The number is 0, or 11 if the length is 0 or 6 doesn't divide it.
-   (It is 65,536 x number + hop.)
+   Number 0 with hop 0 says that nothing matches. (It is 65,536 x number + hop.)
    Leaves all memory as it is. */
 uint32_t whelk_run_lookup(const uint8_t *bytes, size_t length, uint32_t address) WHELK_CALL WHELK_READS(1, 2);
 
-/* Looks an address up in a list: the hop of the longest listed prefix that holds it, or 0. It checks the list and goes through all of it. To
-   forward by, build a run table.
+/* Looks an address up in a list: the hop of the longest listed prefix that holds it, or 0. Time: linear in the list, which it checks. To forward
+   by, build a run table.
    Lend the list.
    Returns a number and a hop, for whelk_lookup_number and whelk_lookup_hop. The number is 0, or 11 if the list is ill-formed. (It is
    65,536 x number + hop.)
@@ -270,7 +299,8 @@ uint32_t whelk_run_lookup(const uint8_t *bytes, size_t length, uint32_t address)
 uint32_t whelk_plain_lookup(size_t count, const uint64_t *keys, size_t keys_length, const uint16_t *hops, size_t hops_length,
                             uint32_t address) WHELK_CALL WHELK_READS(2, 3) WHELK_READS(4, 5);
 
-/* What a packing returns: its number, the width, how many words were written, which is how many bases were too, and how many hops. */
+/* What a packing returns: its number, the width, which is at most 16, how many words were written, which is how many bases were too, and how
+   many hops. */
 struct whelk_packed {
     size_t number;
     size_t width;
@@ -278,18 +308,20 @@ struct whelk_packed {
     size_t hops;
 };
 
-/* A segment is packed into this many words, as many bases and this many hops at the most. */
-#define WHELK_TOP_WORDS 4096
-#define WHELK_TOP_HOPS 65536
+/* A packed segment has this many words, as many bases and this many hops at the most. */
+#define WHELK_PACKED_WORDS 4096
+#define WHELK_PACKED_HOPS 65536
 
-/* Packs segment q of a list: the 65,536 addresses whose first 16 bits are q. The width is the greatest length of a listed prefix in the
-   segment, less 16, and 0 if none is longer than 16. There is 1 word for a width of 0 to 3, and there are 2^(width - 4) for a greater one.
-   Lend the list with its run table as a build left it, the first `runs` runs of starts and run_hops: both are checked, which goes through all
-   of the list. Lend WHELK_TOP_WORDS slots in words and in bases and WHELK_TOP_HOPS in packed_hops; that is always enough.
+/* Packs a segment of a list: the 65,536 addresses whose first 16 bits, address >> 16, are its number. The width is the greatest length of a
+   listed prefix in the segment, less 16, and 0 if none is longer than 16. There is 1 word for a width of 0 to 3, and there are 2^(width - 4)
+   for a greater one. Time: linear in the list, for each segment, since list and run table are checked. After an edit, pack each segment again
+   that has an address of the edited prefix.
+   Lend the list with its run table as a build or an edit left it, the first `runs` runs of starts and run_hops. Lend WHELK_PACKED_WORDS slots
+   in words and in bases and WHELK_PACKED_HOPS in packed_hops; that is always enough.
    Returns number 0, the width and both counts; or 11 if the list is ill-formed or `runs` is above one of the lengths or WHELK_TOP_RUNS, 14
    if the run table is another than the list's, or 13 if one of the three is too short.
    Leaves the segment in words, bases and packed_hops. Slots past its counts stay as they were. */
-struct whelk_packed whelk_pack(uint16_t q, size_t count, const uint64_t *keys, size_t keys_length, const uint16_t *hops, size_t hops_length,
+struct whelk_packed whelk_pack(uint16_t segment, size_t count, const uint64_t *keys, size_t keys_length, const uint16_t *hops, size_t hops_length,
                                size_t runs, const uint32_t *starts, size_t starts_length, const uint16_t *run_hops, size_t run_hops_length,
                                uint16_t *words, size_t words_length, uint16_t *bases, size_t bases_length, uint16_t *packed_hops,
                                size_t packed_hops_length)
@@ -317,14 +349,15 @@ struct whelk_edit {
 };
 
 /* Announces one route: a prefix that isn't listed gets a row with the hop, and a listed one's row gets the hop. The run table follows.
-   Lend the list with its run table as a build or an edit left it, the first `runs` runs of starts and run_hops: both are checked, which goes
-   through all of the list. Lend count + 1 slots in keys and hops, and 2 x count + 3 in starts and run_hops; for a list of fewer than
-   WHELK_TOP_ROWS rows that is always enough. A new hop can make many runs at once: rows inside the prefix that had the hop it had show as
-   runs of their own. The prefix is network/length.
+   The prefix is network/length. Time: linear in the list, since list and run table are checked; for many edits at once, edit the list and build
+   once.
+   Lend the list with its run table as a build or an edit left it, the first `runs` runs of starts and run_hops. Lend count + 1 slots in keys
+   and hops, and 2 x count + 3 in starts and run_hops; for a list of fewer than WHELK_TOP_ROWS rows that is always enough. A new hop can make
+   many runs at once: rows inside the prefix that have its old hop were part of its runs, and now are runs of their own.
    Returns number 0, the changed number and both counts; or 15 if the length is above 32, a bit of the network beyond the length is 1 or
    the hop is 0, 11 if the list is ill-formed or `runs` is above one of the lengths or WHELK_TOP_RUNS, 14 if the run table is another
    than the list's, or 13 if the edited list or its run table is longer than what was lent, or the list longer than WHELK_TOP_ROWS. To
-   announce a listed route with the hop that it has is 0, with 0 changed.
+   announce a listed route with the hop that it has is 0, with 0 changed. On a refusal go on with the old counts.
    Leaves the edited list in keys and hops and its run table in starts and run_hops, in each slot below their counts what a build would give.
    Where a count is smaller than before, the slots that only the old one reached hold 0. Slots past both counts stay as they were. */
 struct whelk_edit whelk_announce(uint32_t network, uint32_t length, uint16_t hop, size_t count, uint64_t *keys, size_t keys_length,
@@ -332,22 +365,23 @@ struct whelk_edit whelk_announce(uint32_t network, uint32_t length, uint16_t hop
                                  uint16_t *run_hops, size_t run_hops_length)
     WHELK_CALL WHELK_CHANGES(5, 6) WHELK_CHANGES(7, 8) WHELK_CHANGES(10, 11) WHELK_CHANGES(12, 13);
 
-/* Withdraws one route: the row of the prefix network/length goes out of the list, and the run table follows.
+/* Withdraws one route: the row of the prefix network/length goes out of the list, and the run table follows. Time: as for an announcement.
    Lend the list and its run table as for an announcement, but count slots in keys and hops, and 2 x count + 1 in starts and run_hops; that is
-   always enough. There can be more runs than before, and many more: rows inside the prefix or beside it that have its hop show as runs of
-   their own.
+   always enough. There can be more runs than before, and many more: rows inside the prefix or beside it that have its hop were part of its
+   runs, and then are runs of their own.
    Returns number 0, the changed number and both counts; or 15 if the length is above 32 or a bit of the network beyond the length is 1,
    11 if the list is ill-formed or `runs` is above one of the lengths or WHELK_TOP_RUNS, 14 if the run table is another than the list's,
-   16 if the prefix isn't listed, or 13 if the new run table is longer than what was lent.
+   16 if the prefix isn't listed, or 13 if the new run table is longer than what was lent. On a refusal go on with the old counts.
    Leaves what an announcement leaves. */
 struct whelk_edit whelk_withdraw(uint32_t network, uint32_t length, size_t count, uint64_t *keys, size_t keys_length, uint16_t *hops,
                                  size_t hops_length, size_t runs, uint32_t *starts, size_t starts_length, uint16_t *run_hops,
                                  size_t run_hops_length)
     WHELK_CALL WHELK_CHANGES(4, 5) WHELK_CHANGES(6, 7) WHELK_CHANGES(9, 10) WHELK_CHANGES(11, 12);
 
-/* A split makes two halves of a list, for two cores that each look up in one. A half is a list with labels in place of hops, and label 0 is
-   no fault; all else that makes a list ill-formed makes a half so. The first half is the list's first k rows: hand in count k with the list's
-   own keys and hops. The second is what whelk_split leaves. At every address, the label that the one gives XOR the label that the other gives
+/* A split makes two halves of a list, for two cores that each look up in one, so that each has a smaller table; a k near count / 2 is usual. A
+   half is a list with labels in place of hops, and label 0 is no fault; all else that makes a list ill-formed makes a half so. The first half
+   is the list's first k rows: hand in count k with the list's own keys and hops. The second is what whelk_split leaves. Only
+   whelk_half_lookup and whelk_build_half are for halves: for other calls label 0 is a fault. After an edit of the list, split again. At every address, the label that the one gives XOR the label that the other gives
    is the list's hop, or 0 where nothing matches. That is so by whelk_half_lookup, and by run lookup in the tables that whelk_build_half leaves. */
 
 /* Splits a list after its first k rows.
@@ -370,8 +404,8 @@ static inline size_t whelk_split_count(uint64_t split)
     return split & 4294967295u;
 }
 
-/* Looks an address up in a half: the label of the longest prefix that holds it, or 0 if none does. It checks the half and goes through all of
-   it. To forward by, build a run table of the half.
+/* Looks an address up in a half: the label of the longest prefix that holds it, or 0 if none does. Time: linear in the half, which it checks. To
+   forward by, build a run table of the half.
    Lend the half.
    Returns a number and a label, for whelk_lookup_number and whelk_lookup_hop. The number is 0, or 11 if the half is ill-formed. (It is
    65,536 x number + label.)

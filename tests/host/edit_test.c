@@ -821,10 +821,10 @@ static void top_room(void)
     same_many("a count above the top room", whelk_announce(1, 32, 1, MANY(n + 1, m)), WHELK_ILL_FORMED, 0, 0, 0, n);
     same_many("a count of runs above the top room", whelk_withdraw(1, 32, MANY(n, m + 1)), WHELK_ILL_FORMED, 0, 0, 0, n);
     same_many("its own hop", whelk_announce(5, 32, 1, MANY(n, m)), 0, 0, n, m, n);
-    same_many("withdrawn in the middle", whelk_withdraw(n + 1, 32, MANY(n, m)), 0, 1, n - 1, m - 2, n / 2);
-    same_many("announced again", whelk_announce(n + 1, 32, 1, MANY(n - 1, m - 2)), 0, 1, n, m, n);
-    same_many("the last withdrawn", whelk_withdraw(2 * n - 1, 32, MANY(n, m)), 0, 1, n - 1, m - 2, n - 1);
-    same_many("the last announced again", whelk_announce(2 * n - 1, 32, 1, MANY(n - 1, m - 2)), 0, 1, n, m, n);
+    same_many("withdrawn in the middle", whelk_withdraw((uint32_t)n + 1, 32, MANY(n, m)), 0, 1, n - 1, m - 2, n / 2);
+    same_many("announced again", whelk_announce((uint32_t)n + 1, 32, 1, MANY(n - 1, m - 2)), 0, 1, n, m, n);
+    same_many("the last withdrawn", whelk_withdraw(2 * (uint32_t)n - 1, 32, MANY(n, m)), 0, 1, n - 1, m - 2, n - 1);
+    same_many("the last announced again", whelk_announce(2 * (uint32_t)n - 1, 32, 1, MANY(n - 1, m - 2)), 0, 1, n, m, n);
     same_many("the first withdrawn", whelk_withdraw(1, 32, MANY(n, m)), 0, 1, n - 1, m - 2, 0);
     same_many("the first announced again", whelk_announce(1, 32, 1, MANY(n - 1, m - 2)), 0, 1, n, m, n);
     same_many("16 in the longest list", whelk_withdraw(0, 0, MANY(n, m)), WHELK_NOT_LISTED, 0, 0, 0, n);

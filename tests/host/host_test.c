@@ -109,7 +109,6 @@ static void pairs(void)
     check("another list is 14", whelk_pair_check(1, keys, 3, hops, 3, 5, starts, 6, run_hops, 6) == 14);
     check("an ill-formed list is 11", whelk_pair_check(3, keys, 3, hops, 3, 5, starts, 6, run_hops, 6) == 11);
     check("runs beyond a slice are 11", whelk_pair_check(2, keys, 3, hops, 3, 5, starts, 6, run_hops, 4) == 11);
-    check("more runs than can be are 11", whelk_pair_check(2, keys, 3, hops, 3, WHELK_TOP_RUNS + 1, starts, 6, run_hops, 6) == 11);
 }
 
 /* Each number has words of its own, and whatever else has the same. */
@@ -125,6 +124,7 @@ static void texts(void)
                                          strcmp(whelk_number_text(SIZE_MAX), whelk_number_text(20)) == 0);
     uint64_t last = key(255, 255, 255, 255, 32);
     check("a key's parts", whelk_key_network(last) == 0xffffffff && whelk_key_length(last) == 32);
+    check("a key of its parts", whelk_key(0xffffffff, 32) == last && whelk_key(0x0a000000, 8) == key(10, 0, 0, 0, 8));
 }
 
 static int gave(struct whelk_edit e, size_t number, uint64_t changed, size_t count, size_t runs)

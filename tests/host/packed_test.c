@@ -19,10 +19,10 @@ static uint32_t starts[2 * MOST + 1];
 static size_t count, runs;
 
 /* what packing is lent, with some slots more than it can need */
-static uint16_t words[WHELK_TOP_WORDS + 16], bases[WHELK_TOP_WORDS + 16], packed_hops[WHELK_TOP_HOPS + 16];
+static uint16_t words[WHELK_PACKED_WORDS + 16], bases[WHELK_PACKED_WORDS + 16], packed_hops[WHELK_PACKED_HOPS + 16];
 
 /* what it should leave there */
-static uint16_t good_words[WHELK_TOP_WORDS + 16], good_bases[WHELK_TOP_WORDS + 16], good_hops[WHELK_TOP_HOPS + 16];
+static uint16_t good_words[WHELK_PACKED_WORDS + 16], good_bases[WHELK_PACKED_WORDS + 16], good_hops[WHELK_PACKED_HOPS + 16];
 
 static uint16_t painted[SEGMENT];
 static unsigned long lookups, packings, before, before_packings, wrong;
@@ -423,13 +423,13 @@ static void any_slices(void)
     int k, i;
     for (k = 0; k < 4000; k++) {
         uint32_t width = any() % 2 ? 4 + below(9) : below(21);
-        size_t w = some_of(WHELK_TOP_WORDS), b = some_of(WHELK_TOP_WORDS), h = some_of(any() % 2 ? 300 : WHELK_TOP_HOPS);
+        size_t w = some_of(WHELK_PACKED_WORDS), b = some_of(WHELK_PACKED_WORDS), h = some_of(any() % 2 ? 300 : WHELK_PACKED_HOPS);
         int kind = k % 4;
-        for (i = 0; i < WHELK_TOP_WORDS; i++) {
+        for (i = 0; i < WHELK_PACKED_WORDS; i++) {
             words[i] = (uint16_t)(kind == 0 ? 0 : kind == 1 ? any() & any() & any() : any());
             bases[i] = (uint16_t)(kind == 2 ? any() : kind == 1 ? 2u * (unsigned)i : below(20));
         }
-        for (i = 0; i < 64; i++) packed_hops[below(WHELK_TOP_HOPS)] = (uint16_t)any();
+        for (i = 0; i < 64; i++) packed_hops[below(WHELK_PACKED_HOPS)] = (uint16_t)any();
         for (i = 0; i < 200; i++) by_the_rule(width, w, b, h, any());
         by_the_rule(width, w, b, h, 0);
         by_the_rule(width, w, b, h, 0xffffffff);
@@ -445,7 +445,7 @@ static void damaged(void)
         struct whelk_packed p;
         size_t w, b, h;
         random_rows(q, below(17), 1 + below(40), 5);
-        p = pack_into(q, WHELK_TOP_WORDS, WHELK_TOP_WORDS, WHELK_TOP_HOPS);
+        p = pack_into(q, WHELK_PACKED_WORDS, WHELK_PACKED_WORDS, WHELK_PACKED_HOPS);
         if (p.number != 0) same("refused", p.number, 0);
         width = (uint32_t)p.width;
         w = p.words;

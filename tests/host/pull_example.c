@@ -7,10 +7,10 @@ int main(void)
     const uint8_t feed[] = "10.0.0.0/8 7\n10.0.0.1/8 7\n\n10.1.0.0/16 70000\n010.064.0.0/10 009";
     struct whelk_row r = whelk_pull(feed, sizeof feed - 1, 0);
     for (; r.found; r = whelk_pull(feed, sizeof feed - 1, r.next)) {
-        unsigned network = (unsigned)(r.key >> 6), length = (unsigned)(r.key & 63);
-        if (r.number == 0)
-            printf("%u.%u.%u.%u/%u goes to hop %zu\n", network >> 24, network >> 16 & 255, network >> 8 & 255, network & 255, length,
-                   r.hop);
+        uint32_t network = whelk_key_network(r.key);
+        if (r.number == WHELK_ROW_TAKEN)
+            printf("%u.%u.%u.%u/%u goes to hop %u\n", network >> 24, network >> 16 & 255, network >> 8 & 255, network & 255,
+                   whelk_key_length(r.key), r.hop);
         else
             printf("a row with number %zu\n", r.number);
     }

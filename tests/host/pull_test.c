@@ -10,7 +10,7 @@ static uint64_t pulled, in_turn_pulled, tallies;
 
 static struct whelk_row row_of(size_t found, size_t number, uint64_t key, size_t hop, size_t next)
 {
-    struct whelk_row r = {found, number, key, hop, next};
+    struct whelk_row r = {found, number, key, (uint16_t)hop, next};
     return r;
 }
 

@@ -13,7 +13,7 @@ class Tally(Structure):
 
 
 class Row(Structure):
-    _fields_ = [("found", c_size_t), ("number", c_size_t), ("key", c_uint64), ("hop", c_size_t), ("next", c_size_t)]
+    _fields_ = [("found", c_size_t), ("number", c_size_t), ("key", c_uint64), ("hop", c_uint16), ("next", c_size_t)]
 
 
 class Packed(Structure):

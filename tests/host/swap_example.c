@@ -50,7 +50,8 @@ static void *forward(void *argument)
     return NULL;
 }
 
-/* Waits until every thread has ended the batch in which it may still read the old table. */
+/* Waits until every thread has ended the batch in which it may still read the old table. The atomics are sequentially consistent, and have to
+   be: the swap must be seen before the batches are read. A thread with nothing to do goes on ending empty batches, since this waits for it. */
 static void wait_for_readers(void)
 {
     for (int i = 0; i < READERS; i++) {
@@ -76,9 +77,11 @@ int main(void)
     for (int i = 0; i < 2; i++) {
         struct table *t = &tables[i];
         t->count = 1;
-        t->keys[0] = UINT64_C(0x0a000000) * 64 + 8;
+        t->keys[0] = whelk_key(0x0a000000, 8);
         t->hops[0] = 7;
-        t->runs = whelk_build_runs(whelk_build(1, t->keys, 4, t->hops, 4, t->starts, 9, t->run_hops, 9));
+        uint64_t built = whelk_build(1, t->keys, 4, t->hops, 4, t->starts, 9, t->run_hops, 9);
+        refused += whelk_build_number(built) != WHELK_DONE;
+        t->runs = whelk_build_runs(built);
         refused += announce(t, 100);
     }
     for (int i = 0; i < READERS; i++)

@@ -17,7 +17,7 @@ static struct core {
     size_t count; /* the core's half */
     const uint64_t *keys;
     const uint16_t *labels;
-    uint32_t starts[2 * FIRST + 1]; /* its run table */
+    uint32_t starts[2 * FIRST + 1]; /* its run table; the second half has fewer rows than the first */
     uint16_t run_labels[2 * FIRST + 1];
     uint16_t found[ADDRESSES]; /* for each address of the queue, its label */
     int refused;
@@ -49,7 +49,7 @@ static void make_list(void)
     hops[0] = 4;
     for (i = 0; i < ROWS - 1; i++) {
         uint32_t network = i / 100 << 24 | i / 10 % 10 << 16 | i % 10 << 8;
-        keys[i + 1] = (uint64_t)network << 6 | (i % 100 == 0 ? 8 : i % 10 == 0 ? 16 : 24);
+        keys[i + 1] = whelk_key(network, i % 100 == 0 ? 8 : i % 10 == 0 ? 16 : 24);
         hops[i + 1] = (uint16_t)(1 + i * 7 % 1013);
     }
 }

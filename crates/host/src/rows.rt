@@ -14,7 +14,7 @@ pub struct WhelkRow {
     pub found: usize,
     pub number: usize,
     pub key: u64,
-    pub hop: usize,
+    pub hop: u16,
     pub next: usize,
 }
 
@@ -40,7 +40,7 @@ fn row_for_c(r: RowRead, next: usize) -> WhelkRow
             found: 1,
             number: feed::TAKEN as usize,
             key,
-            hop: hop as usize,
+            hop,
             next,
         },
         RowRead::Shape => bad_row(feed::SHAPE, next),

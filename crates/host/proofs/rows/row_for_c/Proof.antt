@@ -12,9 +12,6 @@ enum-known-r c = search needs
 cast-t6 : tie.Need-cast-t6
 cast-t6 c = search needs
 
-cast-t7 : tie.Need-cast-t7
-cast-t7 c = search needs
-
 enum-told : tie.Need-enum-told
 enum-told c = search needs
 
@@ -51,7 +48,6 @@ row-for-c-spec =
     (tie.spec
     enum-known-r
     cast-t6
-    cast-t7
     enum-told
     bad-row-requires
     enum-told-2
