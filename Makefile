@@ -65,7 +65,7 @@ $(import): $(library) $(header) tools/build tools/whelk-import.c
 quoted = '$(subst ','\'',$(1))'
 bin = $(call quoted,$(DESTDIR)$(bindir))
 lib = $(call quoted,$(DESTDIR)$(libdir))
-include = $(call quoted,$(DESTDIR)$(includedir))
+headers = $(call quoted,$(DESTDIR)$(includedir))
 man = $(call quoted,$(DESTDIR)$(mandir))
 # A folder as whelkhollow.pc names it, over ${prefix}.
 over = $(call quoted,$(1)=$(subst $(prefix),$${prefix},$($(1))))
@@ -73,14 +73,14 @@ over = $(call quoted,$(1)=$(subst $(prefix),$${prefix},$($(1))))
 install: $(library) $(shared) $(import) $(whelk)
 	@for folder in $(foreach f,bindir libdir includedir mandir,$(call quoted,$($(f)))); do \
 	    case $$folder in /*) ;; *) echo "not from the root: $$folder" >&2; exit 1 ;; esac; done
-	$(INSTALL) -d $(bin) $(lib)/pkgconfig $(include) $(man)/man1 $(man)/man3
+	$(INSTALL) -d $(bin) $(lib)/pkgconfig $(headers) $(man)/man1 $(man)/man3
 	$(INSTALL) -m 755 $(whelk) $(bin)/whelk
 	$(INSTALL) -m 755 $(import).x86-64 $(bin)/whelk-import
 	$(INSTALL) -m 644 $(library) $(lib)/libwhelkhollow.a
 	$(INSTALL) -m 644 $(shared) $(lib)/libwhelkhollow.so.$(version)
 	ln -sf libwhelkhollow.so.$(version) $(lib)/$(soname)
 	ln -sf $(soname) $(lib)/libwhelkhollow.so
-	$(INSTALL) -m 644 $(header) $(include)/whelkhollow.h
+	$(INSTALL) -m 644 $(header) $(headers)/whelkhollow.h
 	printf '%s\n' prefix=$(call quoted,$(prefix)) $(call over,libdir) $(call over,includedir) version=$(version) | \
 	    cat - whelkhollow.pc.in | $(INSTALL) -m 644 /dev/stdin $(lib)/pkgconfig/whelkhollow.pc
 	$(INSTALL) -m 644 man/whelk.1 man/whelk-import.1 $(man)/man1
@@ -89,7 +89,7 @@ install: $(library) $(shared) $(import) $(whelk)
 uninstall:
 	rm -f $(bin)/whelk $(bin)/whelk-import
 	rm -f $(lib)/libwhelkhollow.a $(lib)/libwhelkhollow.so $(lib)/$(soname) $(lib)/libwhelkhollow.so.$(version)
-	rm -f $(include)/whelkhollow.h $(lib)/pkgconfig/whelkhollow.pc
+	rm -f $(headers)/whelkhollow.h $(lib)/pkgconfig/whelkhollow.pc
 	rm -f $(man)/man1/whelk.1 $(man)/man1/whelk-import.1 $(man)/man3/whelkhollow.3
 
 clean:
