@@ -8,7 +8,7 @@
 # make clean      removes all that was built: target/ and target-tests/
 # make help       prints these lines
 .PHONY: all proofs test run tools install uninstall clean help
-FEED = tests/program/sample.feed
+FEED ?= tests/program/sample.feed
 
 PREFIX ?= /usr/local
 prefix = $(PREFIX)
@@ -34,9 +34,12 @@ proofs:
 test:
 	bash tests/run
 
+# A feed's name may have any bytes: make takes it as it is, and the shell has it from its environment. Only blanks at the front of FEED=.. are cut, by
+# make itself; put ./ before them.
+run: override export FEED := $(value FEED)
 run:
 	@rt check whelk >&2
-	@bash scripts/whelk <'$(FEED)'
+	@bash scripts/whelk <"$$FEED"
 
 tools: $(import)
 

@@ -49,3 +49,4 @@ with open(sys.argv[2], "w", encoding="ascii") as feed, open(sys.argv[3], "w", en
 print(f"rows {rows}\ntaken {taken}")
 for why in REASONS:
     print(why.replace(" ", ""), refused[why])
+print(f"hint: of the rows with bad shape, {refused['shape']} have more than one space; write only the one before the hop")
