@@ -35,8 +35,6 @@ static const char usage[] =
     "Exit status: 0 nothing was refused, 1 something was, 2 the call failed. It failed too\n"
     "if something couldn't be written, as on a full disk or to a pipe that nobody reads.\n";
 
-static const char *const reasons[] = {"taken", "shape", "range", "hostbits", "repeat", "noroom"};
-
 /* How many bytes of a refused row are printed. */
 #define ROW_SHOWN 200
 
@@ -209,7 +207,7 @@ static void name_refused(FILE *out, const char *name, const uint8_t *feed, size_
         const uint8_t *lf = memchr(feed + at, '\n', length - at);
         size_t end = lf ? (size_t)(lf - feed) : length;
         if (out && report[line] != 0) {
-            fprintf(out, "%s:%zu: %s: ", name, line + 1, reasons[report[line]]);
+            fprintf(out, "%s:%zu: %s: ", name, line + 1, whelk_row_number_text(report[line]));
             print_row(out, feed + at, end - at);
         }
         if (report[line] == 1) { /* shape */
