@@ -1,8 +1,22 @@
 // The moves of a column of u16, a lent slice of which the first `count` numbers are in use.
 ghost use mathlib.Core.Path.{_≡_};
-ghost use Prim.Native.Nat.{_+_, _-_, _≤_};
+ghost use Prim.Native.Nat.{_+_, _-_, _≤_, _<_};
 ghost use lib.ListN.{length, set};
 ghost use Rattle.ground.specs.Column.{insertedAt, removedAt, cleared, movedUp, movedDown, shifted};
+
+// A number goes in at the front, and the first n numbers move up by one. Of a loop over a slice from its front the compiler makes a memmove,
+// of one from a place inside it doesn't.
+fn insert_front(column: &mut [u16], n: usize, number: u16)
+    requires { ⌜ n < length (now column) ⌝ }
+    ensures { λ _. ⌜ now (column .exit) ≡ insertedAt n 0 number (now (column .entry)) ⌝ }
+{
+    let mut i = n;
+    while 0 < i {
+        column[i] = column[i - 1];
+        i -= 1;
+    }
+    column[0] = number;
+}
 
 // A number goes in at a place; those from there on move up by one. Beyond the count, or in a full column, nothing changes.
 pub fn insert(column: &mut [u16], count: usize, at: usize, number: u16)
@@ -10,12 +24,7 @@ pub fn insert(column: &mut [u16], count: usize, at: usize, number: u16)
 {
     if at <= count {
         if count < column.len() {
-            let mut i = count;
-            while at < i {
-                column[i] = column[i - 1];
-                i -= 1;
-            }
-            column[at] = number;
+            insert_front(&mut column[at..], count - at, number);
         }
     }
 }
