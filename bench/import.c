@@ -1,13 +1,13 @@
-/* Import of a feed in key order, repeats beside their first row, and of its rows in any order. In key order both sides find a row's place at
-   the last key. In any order both walk from the front, so the time for a row grows with the rows before it: past 10,000 rows that stops
-   being bearable. */
+/* Import of a feed in key order, repeats beside their first row, and of feeds in other orders: with 255.255.255.255/32 put first, with one row in
+   100 moved elsewhere, and shuffled. In key order both sides find a row's place at the last key. Else both halve, and then move the rows behind
+   the place by one: where these are many, the time for a row grows with the rows before it, and past 100,000 rows that stops being bearable. */
 #include "in_c.h"
 #include "measure.h"
 #include "nested.h"
 #include "whelkhollow.h"
 
 #define MOST 1000000u
-#define MOST_ANY_ORDER 10000u
+#define MOST_MOVED 100000u
 
 static uint8_t feed[MOST * 32], report[MOST];
 static uint64_t rows[MOST], keys[MOST];
@@ -49,20 +49,37 @@ static void measure(const char *inputs)
     row("import, for each row", n, inputs, ours, in_c, n);
 }
 
+/* A row goes elsewhere, and those between move by one. */
+static void move_row(size_t from, size_t to)
+{
+    uint64_t moved = rows[from];
+    if (from < to)
+        memmove(rows + from, rows + from + 1, (to - from) * sizeof moved);
+    else
+        memmove(rows + to + 1, rows + to, (from - to) * sizeof moved);
+    rows[to] = moved;
+}
+
 int main(void)
 {
     for (n = 1000; n <= MOST; n *= 10) {
         size_t i;
         nested(rows, n);
         measure("sorted");
-        if (n > MOST_ANY_ORDER) continue;
+        if (n > MOST_MOVED) continue;
+        rows[n - 1] = (uint64_t)0xffffffff * 64 + 32;
+        move_row(n - 1, 0);
+        measure("high 1st");
+        nested(rows, n);
+        for (i = 0; i < n / 100; i++) move_row(any() % n, any() % n);
+        measure("1 in 100");
         for (i = n; i > 1; i--) {
             size_t other = any() % i;
             uint64_t last = rows[i - 1];
             rows[i - 1] = rows[other];
             rows[other] = last;
         }
-        measure("any order");
+        measure("shuffled");
     }
     return 0;
 }

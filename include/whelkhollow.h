@@ -158,8 +158,9 @@ struct whelk_counts {
 };
 
 /* Imports a text feed as a new list. A row is `a.b.c.d/len hop`. It ends with an LF, and the last one may end with the feed. Each row is taken or
-   refused, and gets its number. Time: linear if the rows go by address as a number, and by length where that is the same; quadratic if not.
-   (A sort of the text isn't that order: it puts 100.0.0.0 before 20.0.0.0.)
+   refused, and gets its number. Time: linear if the rows go by address as a number, and by length where that is the same. A row out of that
+   order costs a search and a move of the rows behind its place, so a long feed in random order takes quadratic time. (A sort of the text isn't
+   that order: it puts 100.0.0.0 before 20.0.0.0.)
    Lend keys, hops and report with one slot more than the feed has LFs; that is always enough. What they held doesn't matter. At most as many
    rows are taken as the shorter of keys and hops has slots, and at most WHELK_TOP_ROWS.
    Returns number 0 and the counts; or 12 if the report has fewer bytes than the feed has rows.
