@@ -8,6 +8,7 @@ ghost use Rattle.sweep.specs.Sweep.{allRows, Sorted};
 ghost use Rattle.within.specs.Own.{enclosingHop};
 ghost use Rattle.edit.specs.Inside.Local.{editedRows};
 ghost use Rattle.edit.specs.Inside.Found.{FoundIn};
+use routes::Place;
 
 // Where a key stands or would stand, and whether it is there.
 pub struct Found {
@@ -15,17 +16,15 @@ pub struct Found {
     pub listed: bool,
 }
 
-// The place of a key among ascending keys, by halving.
+// The place of a key among ascending keys, and whether it stands there.
 pub(crate) fn find(keys: &[u64], key: u64) -> Found
     requires { ⌜ ascends (now keys) ≡ true ⌝ }
     ensures { λ r. ⌜ FoundIn (now (keys .entry)) key r ⌝ }
 {
-    let at = halving::column64::lower(keys, key);
-    if keys.len() <= at {
-        return Found { at, listed: false };
+    match routes::place_of(keys, key) {
+        Place::At(at) => Found { at, listed: true },
+        Place::Missing(at) => Found { at, listed: false },
     }
-    let listed = keys[at] == key;
-    Found { at, listed }
 }
 
 // The hop at the prefix's own addresses: its row's, or that of the nearest row around it.

@@ -1,30 +1,29 @@
--- `edit::hops::find` meets its contract: the key is listed exactly if it stands at the place that halving finds (`Found`).
+-- `edit::hops::find` meets its contract: what the place of the key says (`Found`).
 -- Assumes nothing.
+use mathlib.Core.Path.{sym, _∙_}
 use borrow.Author.Needs.{needs}
-use Rattle.edit.proofs.Found.{found-past, found-within}
+use Rattle.edit.proofs.Found.{found-at, found-missing}
 use Rattle.edit.proofs.hops.find.Statement.{statement}
 use Rattle.edit.proofs.hops.find.Tie as tie
 
-lower-requires : tie.Need-lower-requires
-lower-requires c κs = search needs
+place-of-requires : tie.Need-place-of-requires
+place-of-requires c κs = search needs
+
+enum-known-at : tie.Need-enum-known-at
+enum-known-at c = search needs
+
+enum-known-at-2 : tie.Need-enum-known-at-2
+enum-known-at-2 c = search needs
 
 returns : tie.Need-returns
 returns c =
-    let found = c .before in
-    let start = found .before .before in
-    found-past _ _ (start .pre) _ (found .lower .ensures (start .pre)) (c .if1 .taken)
-
-mul-listed : tie.Need-mul-listed
-mul-listed c = search needs
-
-shared-slice-read-listed : tie.Need-shared-slice-read-listed
-shared-slice-read-listed c = search needs
+    let p = c .before .before .before in
+    found-at _ _ _ (sym (c .before .at .given .1) ∙ p .place-of .ensures (p .before .before .pre))
 
 returns-2 : tie.Need-returns-2
 returns-2 c =
-    let found = c .before .before in
-    let start = found .before .before in
-    found-within _ _ (start .pre) _ (found .lower .ensures (start .pre)) (c .before .if1 .left)
+    let p = c .before .before .before in
+    found-missing _ _ _ (sym (c .before .at2 .given .1) ∙ p .place-of .ensures (p .before .before .pre))
 
 pub find-spec : {M : Type 1} → statement M
-find-spec = tie.close (tie.spec lower-requires returns mul-listed shared-slice-read-listed returns-2)
+find-spec = tie.close (tie.spec place-of-requires enum-known-at enum-known-at-2 returns returns-2)
