@@ -206,11 +206,11 @@ static void name_refused(FILE *out, const char *name, const uint8_t *feed, size_
     for (size_t at = 0; at < length; line++) {
         const uint8_t *lf = memchr(feed + at, '\n', length - at);
         size_t end = lf ? (size_t)(lf - feed) : length;
-        if (out && report[line] != 0) {
+        if (out && report[line] != WHELK_ROW_TAKEN) {
             fprintf(out, "%s:%zu: %s: ", name, line + 1, whelk_row_number_text(report[line]));
             print_row(out, feed + at, end - at);
         }
-        if (report[line] == 1) { /* shape */
+        if (report[line] == WHELK_ROW_SHAPE) {
             size_t pattern = 0;
             while (patterns[pattern].fits && !patterns[pattern].fits(feed + at, feed + end)) pattern++;
             fit[pattern]++;
@@ -280,7 +280,7 @@ static int print_list(size_t count, const uint64_t *keys, const uint16_t *hops)
     uint8_t *text = malloc(room);
     if (!text) return fail("the list", strerror(ENOMEM));
     uint64_t wrote = whelk_write(count, keys, count, hops, count, text, room);
-    if (whelk_write_number(wrote) != WHELK_DONE) return fail("the list", "it can't be written as text");
+    if (whelk_write_number(wrote) != WHELK_DONE) return fail("the list", whelk_number_text(whelk_write_number(wrote)));
     fwrite(text, 1, whelk_write_bytes(wrote), stdout);
     free(text);
     return sent(stdout, "standard output");
@@ -331,7 +331,7 @@ int main(int argc, char **argv)
     if (!keys || !hops || !report) return fail(name, strerror(ENOMEM));
 
     struct whelk_counts counts = whelk_import(feed, length, keys, room, hops, room, report, rows);
-    if (counts.number != WHELK_DONE) return fail(name, "the report is too short");
+    if (counts.number != WHELK_DONE) return fail(name, whelk_number_text(counts.number));
 
     /* What was refused is said first, so that it is said too if the list can't be written. */
     FILE *out = list ? stderr : stdout;

@@ -4,8 +4,8 @@ ghost use Prim.Native.Nat.{_<_};
 ghost use lib.ListN.{length};
 ghost use Rattle.ground.specs.Column.{insertedAt, removedAt};
 
-// A number goes in at the front, and the first n numbers move up by one. Of a loop over a slice from its front the compiler makes a memmove,
-// of one from a place inside it doesn't.
+// A number goes in at the front, and the first n numbers move up by one. Of a loop over a slice from its front the compiler makes a
+// memmove, of one that ends at a place inside it doesn't.
 fn insert_front(column: &mut [u64], n: usize, number: u64)
     requires { ⌜ n < length (now column) ⌝ }
     ensures { λ _. ⌜ now (column .exit) ≡ insertedAt n 0 number (now (column .entry)) ⌝ }
