@@ -117,7 +117,7 @@ static void build(void)
         fib = rte_fib_create("fib", SOCKET_ID_ANY, &fib_of);
         memory[IN_FIB] += heap();
         if (!lpm || !fib) stop(2, "build", "nested", "DPDK has no room for its tables here");
-        whelk_build(n, keys, n, hops, n, starts, 2 * n + 1, run_hops, 2 * n + 1);
+        runs = whelk_build(n, keys, n, hops, n, starts, 2 * n + 1, run_hops, 2 * n + 1);
         t = seconds();
         runs = whelk_build(n, keys, n, hops, n, starts, 2 * n + 1, run_hops, 2 * n + 1);
         times[SLICES][r] = seconds() - t;

@@ -30,6 +30,15 @@ static void imports(void)
     check("an empty feed", c.number == 0 && c.rows == 0 && c.taken == 0);
     c = whelk_import((const uint8_t *)five, strlen(five), keys, 0, hops, 4, report, 6);
     check("no room", c.number == 0 && c.rows == 5 && c.taken == 0 && c.noroom == 2 && c.repeat == 0 && report[0] == 5 && report[2] == 5);
+    /* places at both ends of the list: the last prefix first, each again, one between, no LF at the end */
+    const char mixed[] = "255.255.255.255/32 5\n0.0.0.0/0 4\n255.255.255.255/32 6\n0.0.0.0/0 3\n10.0.0.0/8 7\n0.0.0.0/32 8";
+    const uint8_t mixed_numbers[6] = {0, 0, 4, 4, 0, 0};
+    c = whelk_import((const uint8_t *)mixed, strlen(mixed), keys, 4, hops, 4, report, 6);
+    check("out of order, at both ends: counts", c.number == 0 && c.rows == 6 && c.taken == 4 && c.repeat == 2);
+    check("out of order, at both ends: report", memcmp(report, mixed_numbers, 6) == 0);
+    check("out of order, at both ends: list", keys[0] == 0 && keys[1] == 32 && keys[2] == key(10, 0, 0, 0, 8) &&
+                                                  keys[3] == key(255, 255, 255, 255, 32) && hops[0] == 4 && hops[1] == 8 && hops[2] == 7 &&
+                                                  hops[3] == 5);
 }
 
 /* A sorted feed of many rows, and lookups in the list that it leaves. */
@@ -109,6 +118,14 @@ static void pairs(void)
     check("another list is 14", whelk_pair_check(1, keys, 3, hops, 3, 5, starts, 6, run_hops, 6) == 14);
     check("an ill-formed list is 11", whelk_pair_check(3, keys, 3, hops, 3, 5, starts, 6, run_hops, 6) == 11);
     check("runs beyond a slice are 11", whelk_pair_check(2, keys, 3, hops, 3, 5, starts, 6, run_hops, 4) == 11);
+    check("the empty list and its one run", whelk_pair_check(0, keys, 0, hops, 0, 1, starts, 1, run_hops, 1) == 0);
+    check("the empty list and no runs, of no slots", whelk_pair_check(0, keys, 0, hops, 0, 0, starts, 0, run_hops, 0) == 14);
+    const uint64_t ends[2] = {0, key(255, 255, 255, 255, 32)};
+    const uint16_t end_hops[2] = {4, 5};
+    const uint32_t end_starts[2] = {0, 0xffffffff}, before_end[2] = {0, 0xfffffffe};
+    check("0.0.0.0/0 and 255.255.255.255/32", whelk_pair_check(2, ends, 2, end_hops, 2, 2, end_starts, 2, end_hops, 2) == 0);
+    check("the last run one address early is 14", whelk_pair_check(2, ends, 2, end_hops, 2, 2, before_end, 2, end_hops, 2) == 14);
+    check("the last run lost is 14", whelk_pair_check(2, ends, 2, end_hops, 2, 1, end_starts, 2, end_hops, 2) == 14);
 }
 
 /* Each number has words of its own, and whatever else has the same. */

@@ -1,4 +1,4 @@
--- What the crate's functions promise one another. No promise to a caller rests on how these are worded.
+-- What the crate's functions promise one another. No promise of an entry rests on how these are worded, only that of `edit_agreed`.
 pub mod Splice
 pub mod Joints
 pub mod Found

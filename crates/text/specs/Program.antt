@@ -48,7 +48,7 @@ runLines [] hops = []
 runLines (s ∷ starts) [] = []
 runLines (s ∷ starts) (h ∷ hops) = lineOf (dottedText s) h ++ runLines starts hops
 
--- Rules 13.1 to 13.4: all that the program writes.
+-- Rules 13.1 to 13.4: all that the program writes of a feed that it could read.
 unfoldable pub programText : List ℕ → List ℕ
 programText feed =
     cond (ltb longestFeed (length feed))
