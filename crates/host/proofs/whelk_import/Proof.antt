@@ -65,6 +65,15 @@ mul-t42 c = search needs
 element-copy-out-t45 : tie.Need-element-copy-out-t45
 element-copy-out-t45 c = search needs
 
+cast-t46 : tie.Need-cast-t46
+cast-t46 c = search needs
+
+mul-t47 : tie.Need-mul-t47
+mul-t47 c = search needs
+
+element-copy-out-t50 : tie.Need-element-copy-out-t50
+element-copy-out-t50 c = search needs
+
 same-length : tie.Need-same-length
 same-length c = search needs
 
@@ -114,6 +123,9 @@ whelk-import-spec =
     cast-t41
     mul-t42
     element-copy-out-t45
+    cast-t46
+    mul-t47
+    element-copy-out-t50
     same-length
     same-length-2
     same-length-3
