@@ -97,7 +97,8 @@ enum whelk_row_number {
     WHELK_ROW_TAKEN = 0,    /* its prefix and hop are in the list now; in a pull, a good row */
     WHELK_ROW_SHAPE = 1,    /* it isn't `a.b.c.d/len hop`, with 1 to 3 digits for an octet, 1 or 2 for the length and 1 to 5 for the hop; an empty
                                row, a CR, a tab and a second space are wrong too */
-    WHELK_ROW_RANGE = 2,    /* its shape is right and no number has a zero in front, but an octet is above 255, the length above 32, the hop 0 or above 65,535 */
+    WHELK_ROW_RANGE = 2,    /* its shape is right and no number has a zero in front, but an octet is above 255, the length above 32, the hop 0 or
+                               above 65,535 */
     WHELK_ROW_HOSTBITS = 3, /* a bit of the address beyond the length is 1 */
     WHELK_ROW_REPEAT = 4,   /* an earlier row with the same prefix was taken */
     WHELK_ROW_NOROOM = 5,   /* the list is full */

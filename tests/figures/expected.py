@@ -135,7 +135,7 @@ def show_import(name, feed, keys, hops, report):
     numbers, routes = import_feed(feed, min(keys, hops))
     number, counts = 0, counts_of(numbers)
     if report < len(numbers):
-        number, counts, numbers, routes = 12, [0] * 7, [], []
+        number, counts, numbers, routes = 12, [0] * 8, [], []
     print("# Import:", name)
     line("number", [number])
     line("counts", counts)

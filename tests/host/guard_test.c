@@ -144,7 +144,7 @@ static void imports(void)
                     size_t report = tried(r, ROWS), rows = feed ? ROWS : 0;
                     size_t room = keys < hops ? keys : hops, fit = room < rows ? room : rows;
                     uint8_t numbers[ROWS];
-                    struct whelk_tally t = {1, 2, 3, 4, 5, 6, 7};
+                    struct whelk_tally t = {1, 2, 3, 4, 5, 6, 7, 8};
                     const struct whelk_tally was = t;
                     struct whelk_counts c;
                     for (size_t i = 0; i < ROWS; i++) numbers[i] = i < fit ? taken[i] : 5;

@@ -19,8 +19,8 @@ static int same(struct whelk_row a, struct whelk_row b)
     return a.found == b.found && a.number == b.number && a.key == b.key && a.hop == b.hop && a.next == b.next;
 }
 
-/* A row by itself. All of its bytes that are no digits, put together, must be the five marks, and then only how many digits stand between
-   them, which is the first of them and what these are worth is of interest. */
+/* A row by itself. All of its bytes that are no digits, put together, must be the five marks, and then only the digits between them are of
+   interest: how many there are, which is the first, and what they are worth. */
 static struct whelk_row reading(const uint8_t *row, size_t length, size_t next)
 {
     static const char marks[] = ".../ ";
@@ -251,7 +251,8 @@ static uint32_t draw(uint32_t below)
     return seed % below;
 }
 
-/* Drawn rows, of which some are good, some repeat, and some have a value or a byte that spoils them. */
+/* Drawn rows, of which some are good, some repeat, and some have a value, a zero in front or a byte that spoils
+   them. */
 static size_t drawn(uint8_t *feed, int rows, int last_lf)
 {
     size_t n = 0;

@@ -37,16 +37,14 @@ def random_row(some):
     return row(address >> (32 - length) << (32 - length), length, some.choice((1, 2, 3, 65535, some.randrange(1, 65536))))
 
 
-def zeros(some, number):
-    """A number as text, now and then with zeros in front."""
-    return some.choice(("", "", "", "", "", "", "0", "00")) + str(number)
-
-
 def faulty_row(some):
     """A row with numbers at random, which are often out of range, leave host bits, or have zeros in front."""
-    octets = ".".join(zeros(some, some.choice((0, 0, 1, 10, 255, 256, some.randrange(1000)))) for _ in range(4))
-    length = zeros(some, some.choice((0, 8, 24, 32, 33, some.randrange(100))))
-    return f"{octets}/{length} {zeros(some, some.choice((0, 1, 7, 65535, 65536, 99999)))}\n".encode()
+    numbers = [some.choice((0, 0, 1, 10, 255, 256, some.randrange(1000))) for _ in range(4)]
+    numbers += [some.choice((0, 8, 24, 32, 33, some.randrange(100))), some.choice((0, 1, 7, 65535, 65536, 99999))]
+    texts = [str(number) for number in numbers]
+    if some.randrange(3) == 0:
+        texts[some.randrange(6)] = some.choice(("0", "00")) + some.choice(("0", "1", "8"))
+    return "{}.{}.{}.{}/{} {}\n".format(*texts).encode()
 
 
 def damaged(some, feed):

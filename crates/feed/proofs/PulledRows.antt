@@ -1,5 +1,5 @@
--- Pulls from the feed's start on give what its rows say, all of them in their order, and then no row. So the numbers 1, 2 and 3 that an
--- import gives are those that the pulls give.
+-- Pulls from the feed's start on give what its rows say, all of them in their order, and then no row. So the numbers 1, 6, 2 and 3 that
+-- an import gives are those that the pulls give.
 -- Assumes nothing.
 use mathlib.Core.Path.{_≡_, refl, sym, ap, _∙_}
 use mathlib.Core.Logic.{_⊎_, inl, inr}

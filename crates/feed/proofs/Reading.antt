@@ -15,8 +15,8 @@ use Rattle.cidr.specs.Prefix.{addresses, keyOf, network, lengthOf, hostBits, is
 use Rattle.cidr.proofs.Prefix.{parts-prefix, network-key, length-key}
 use Rattle.feed.specs.declared.parse.Values.{Values}
 use Rattle.feed.specs.RowNumber.{rowTaken, rowShape, rowZeros, rowRange, rowHostBits, rowRepeat, rowNoRoom, rowNames}
-use Rattle.feed.specs.Reading.{Reading, good, bad, addressOf, outOfRange, hasHostBits, valueFault, judgedValues}
-use Rattle.feed.specs.Reading.{hasZeros, valuesOf, judged, readRow, fieldsOf, form}
+use Rattle.feed.specs.Reading.{Reading, good, bad, addressOf, outOfRange, hasHostBits, numbersFault, judgedNumbers}
+use Rattle.feed.specs.Reading.{hasZeroInFront, valuesOf, judged, readRow, fieldsOf, form}
 
 -- the numbers of a row are in range
 pub record InRange (v : Values) : Type 0 where
@@ -120,8 +120,8 @@ good-prefix v i e = parts-prefix (keyOf (addressOf v) (v .len)) (record {
 abbrev first-of : Bool → Bool → Bool → ℕ
 first-of a b c = cond a rowZeros (cond b rowRange (cond c rowHostBits rowTaken))
 
-judged-sound : (z : Bool) (v : Values) → Sound (judgedValues z v)
-unfolding judgedValues valueFault firstFault
+judged-sound : (z : Bool) (v : Values) → Sound (judgedNumbers z v)
+unfolding judgedNumbers numbersFault firstFault
 judged-sound z v = go z (outOfRange v) (hasHostBits v) refl refl
   where
     go : (a b c : Bool) → outOfRange v ≡ b → hasHostBits v ≡ c
@@ -137,4 +137,4 @@ read-row-sound bytes = go (fieldsOf form bytes)
   where
     go : (o : Option (List (List ℕ))) → Sound (judged o)
     go none = shape
-    go (some ns) = judged-sound (hasZeros ns) (valuesOf ns)
+    go (some ns) = judged-sound (hasZeroInFront ns) (valuesOf ns)

@@ -20,7 +20,7 @@ use Rattle.feed.specs.declared.parse.NumberAt.{NumberAt}
 use Rattle.feed.specs.declared.parse.NumberAt.the-variants.{Read, NotOfForm}
 use Rattle.feed.specs.RowNumber.{rowShape}
 use Rattle.feed.specs.Reading.{bad, isDigit, digits, afterDigits, isNumber, begins, isEnd, before, zeroInFront, Field, field}
-use Rattle.feed.specs.Reading.{form, fieldsOf, hasZeros, valueFrom, inPlaces, judgedValues, valuesOf, judged, readRow}
+use Rattle.feed.specs.Reading.{form, fieldsOf, hasZeroInFront, valueFrom, inPlaces, judgedNumbers, valuesOf, judged, readRow}
 use Rattle.feed.specs.Inside.Fields.{digitsFrom, fieldFrom, readFrom}
 use Rattle.feed.proofs.Fields.{after-is, digits-within, digits-next, digits-value, zeroSeen, zero-seen}
 
@@ -70,8 +70,8 @@ module _ (row : List ℕ) (at : ℕ) (h : at ≤ length row) (zeros : Bool) (v :
       go (inr n) = rw n
 
   pub hop-last : (d .next ≡ at → ⊥) → length row ≤ d .next → length v ≡ 5
-      → judgedValues (zeros || zeroSeen row at (d .next)) (filled v (d .value)) ≡ readFrom zeros v (fieldsOf [] (drop at row))
-  unfolding readFrom fieldsOf hasZeros
+      → judgedNumbers (zeros || zeroSeen row at (d .next)) (filled v (d .value)) ≡ readFrom zeros v (fieldsOf [] (drop at row))
+  unfolding readFrom fieldsOf hasZeroInFront
   hop-last moved end five =
       rw (
         le-leb 1 (length ds) one,
@@ -82,7 +82,7 @@ module _ (row : List ℕ) (at : ℕ) (h : at ≤ length row) (zeros : Bool) (v :
         or-false,
         zero-seen row at (d .next) one (omega (arith, few, digits-next row at 5 d e)),
       )
-      (sym (ap (judgedValues (zeros || zeroInFront ds)) (in-places v (valueFrom 0 ds) five ∙ ap (filled v) value)))
+      (sym (ap (judgedNumbers (zeros || zeroInFront ds)) (in-places v (valueFrom 0 ds) five ∙ ap (filled v) value)))
     where
       few : length ds ≤ 5
       few = omega (arith, digits-next row at 5 d e, within)
@@ -197,9 +197,9 @@ form-at (suc (suc (suc (suc (suc i))))) l = absurd (omega arith)
 
 read-more : (z : Bool) (vs : List ℕ) (ds : List ℕ) (o : Option (List (List ℕ)))
     → readFrom z vs (before ds o) ≡ readFrom (z || zeroInFront ds) (vs ++ valueFrom 0 ds ∷ []) o
-unfolding readFrom hasZeros
+unfolding readFrom hasZeroInFront
 read-more z vs ds none = refl
-read-more z vs ds (some ns) = rw (append-assoc, or-assoc z (zeroInFront ds) (hasZeros ns))
+read-more z vs ds (some ns) = rw (append-assoc, or-assoc z (zeroInFront ds) (hasZeroInFront ns))
 
 module _ {row v : List ℕ} {zeros : Bool} {at i : ℕ} (s : Rowing row v zeros at i) (l : i < 5) where
   abbrev most : ℕ

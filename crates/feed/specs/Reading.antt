@@ -82,9 +82,9 @@ abbrev pub zeroInFront : List ℕ → Bool
 zeroInFront ds = ltb 1 (length ds) && begins digit0 ds
 
 -- Rule 3.7, number 6: one of the numbers has a zero in front.
-unfoldable pub hasZeros : List (List ℕ) → Bool
-hasZeros [] = false
-hasZeros (ds ∷ more) = zeroInFront ds || hasZeros more
+unfoldable pub hasZeroInFront : List (List ℕ) → Bool
+hasZeroInFront [] = false
+hasZeroInFront (ds ∷ more) = zeroInFront ds || hasZeroInFront more
 
 -- the value of digits, read as decimal from the first on
 unfoldable pub valueFrom : ℕ → List ℕ → ℕ
@@ -115,18 +115,18 @@ pub data Reading : Type 0 where
   good : ℕ → ℕ → Reading
   bad : ℕ → Reading
 
--- the number of the first fault of a row of the form, by whether it has zeros and by its values; 0, as of a row that is taken, where there
--- is none
-unfoldable pub valueFault : Bool → Values → ℕ
-valueFault zeros v = firstFault (check zeros rowZeros ∷ check (outOfRange v) rowRange ∷ check (hasHostBits v) rowHostBits ∷ [])
+-- the number of the first fault of a row's six numbers, by whether one of them has a zero in front and by their values; 0, as of a row that
+-- is taken, where there is none
+unfoldable pub numbersFault : Bool → Values → ℕ
+numbersFault zeros v = firstFault (check zeros rowZeros ∷ check (outOfRange v) rowRange ∷ check (hasHostBits v) rowHostBits ∷ [])
 
-unfoldable pub judgedValues : Bool → Values → Reading
-judgedValues zeros v =
-    cond (eqb (valueFault zeros v) rowTaken) (good (keyOf (addressOf v) (v .len)) (v .hop)) (bad (valueFault zeros v))
+unfoldable pub judgedNumbers : Bool → Values → Reading
+judgedNumbers zeros v =
+    cond (eqb (numbersFault zeros v) rowTaken) (good (keyOf (addressOf v) (v .len)) (v .hop)) (bad (numbersFault zeros v))
 
 unfoldable pub judged : Option (List (List ℕ)) → Reading
 judged none = bad rowShape
-judged (some ns) = judgedValues (hasZeros ns) (valuesOf ns)
+judged (some ns) = judgedNumbers (hasZeroInFront ns) (valuesOf ns)
 
 -- the reading of a row: the whole row's shape first, then zeros in front, then its values
 unfoldable pub readRow : List ℕ → Reading

@@ -1,4 +1,5 @@
-// The parts of a row: digits, one number with the byte after it, and what six numbers say, by zeros in front and by their values. `read_row` puts them together.
+// The parts of a row: digits, one number with the byte after it, and what six numbers say, by zeros in front and by their values.
+// `read_row` puts them together.
 ghost use mathlib.Core.Path.{_≡_};
 ghost use mathlib.Core.Bool.{false, not, _&&_, _||_};
 ghost use mathlib.Core.List.{[]};
@@ -7,7 +8,7 @@ ghost use lib.ListN.{length, drop, getD};
 ghost use lib.Dec.{ltb, eqb};
 ghost use Rattle.cidr.specs.Prefix.{keyOf};
 ghost use Rattle.feed.specs.Rows.{digit0};
-ghost use Rattle.feed.specs.Reading.{isDigit, addressOf, outOfRange, judgedValues, fieldsOf, readingOf};
+ghost use Rattle.feed.specs.Reading.{isDigit, addressOf, outOfRange, judgedNumbers, fieldsOf, readingOf};
 ghost use Rattle.feed.specs.Inside.Fields.{digitsFrom, fieldFrom, readFrom};
 use crate::RowRead;
 
@@ -155,7 +156,7 @@ fn key_of(v: Values) -> u64
 
 // What a row of the form says: zeros in front first, then range, then host bits.
 fn judge(zeros: bool, v: Values) -> RowRead
-    ensures { λ r. ⌜ readingOf r ≡ judgedValues zeros v ⌝ }
+    ensures { λ r. ⌜ readingOf r ≡ judgedNumbers zeros v ⌝ }
 {
     if zeros {
         return RowRead::Zeros;

@@ -142,6 +142,7 @@ corners =
     -- A lone 0 has no zero in front: hop 0 is 2, and as an octet or length it is good. A zero may stand behind another digit.
     ∷ figure (numbered (bytes "010.0.0.0/8 7\n10.00.0.0/8 7\n10.0.000.0/8 7\n10.0.0.01/8 7\n")) (6 ∷ 6 ∷ 6 ∷ 6 ∷ [])
     ∷ figure (numbered (bytes "10.0.0.0/08 7\n10.0.0.0/8 07\n10.0.0.0/8 00\n10.0.0.0/8 0\n")) (6 ∷ 6 ∷ 6 ∷ 2 ∷ [])
+    ∷ figure (numbered (bytes "0.0.0.0/00 7\n0.0.0.0/0 00000\n")) (6 ∷ 6 ∷ [])
     ∷ figure (numbered (bytes "010.0.0.256/8 7\n010.0.0.0/8 7x\n10.0.0.1/08 70000\n")) (6 ∷ 1 ∷ 6 ∷ [])
     ∷ figure (numbered (bytes "0.0.0.0/0 7\n100.0.0.0/10 100\n0.0.0.1/8 7\n")) (0 ∷ 0 ∷ 3 ∷ [])
     -- Rules 3.6 and 3.7: the whole row's form comes before any value, and range before host bits.

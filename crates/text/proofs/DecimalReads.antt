@@ -1,6 +1,5 @@
--- A number's decimal digits read back: they are digits with no zero in front, they end where no digit follows, and
--- their value is the number. Each fact goes by
--- the number's digits (`by-digits`): it holds of one digit, and with the digits of a tenth for those and one more.
+-- A number's decimal digits read back: they are digits with no zero in front, they end where no digit follows, and their value is the number.
+-- Each fact goes by the number's digits (`by-digits`): it holds of one digit, and with the digits of a tenth for those and one more.
 -- Assumes nothing.
 use mathlib.Core.Path.{_≡_, refl, _∙_}
 use mathlib.Core.Logic.{⊎-elim}

@@ -16,7 +16,7 @@ use Rattle.cidr.proofs.Prefix.{Prefix, prefix-parts, key-split}
 use Rattle.routes.specs.Row.{Row}
 use Rattle.feed.specs.Rows.{LF, dot, slash, space}
 use Rattle.feed.specs.Reading.{isDigit, digits, afterDigits, isNumber, begins, Field, field, form, before, fieldsOf}
-use Rattle.feed.specs.Reading.{hasZeros, valueFrom, inPlaces, valuesOf, outOfRange, hasHostBits, good, valueFault, judgedValues, judged, readRow}
+use Rattle.feed.specs.Reading.{hasZeroInFront, valueFrom, inPlaces, valuesOf, outOfRange, hasHostBits, good, numbersFault, judgedNumbers, judged, readRow}
 use Rattle.text.specs.Text.{decimal, dottedText, rowText}
 use Rattle.text.proofs.Decimal.{one-digit, digits-at-most}
 use Rattle.text.proofs.DecimalReads.{decimal-read, decimal-after, decimal-value, decimal-no-zero}
@@ -74,8 +74,8 @@ values-back [] = refl
 values-back (n ∷ ns) = rw (decimal-value n, values-back ns)
 
 -- none of them has a zero in front
-no-zeros : (ns : List ℕ) → hasZeros (map decimal ns) ≡ false
-unfolding hasZeros
+no-zeros : (ns : List ℕ) → hasZeroInFront (map decimal ns) ≡ false
+unfolding hasZeroInFront
 no-zeros [] = refl
 no-zeros (n ∷ ns) = rw (decimal-no-zero n) (no-zeros ns)
 
@@ -120,8 +120,8 @@ module _ (r : Row) (e : isPrefix (r .key) ≡ true) (given : r .hop ≡ 0 → �
   unfolding hasHostBits inPlaces
   no-host-bits = rw (address-is (network (r .key)), eq-eqb _ 0 (parts .aligned))
 
-  values-good : judgedValues false (inPlaces (numbersIn r)) ≡ good (r .key) (r .hop)
-  unfolding judgedValues valueFault firstFault inPlaces
+  values-good : judgedNumbers false (inPlaces (numbersIn r)) ≡ good (r .key) (r .hop)
+  unfolding judgedNumbers numbersFault firstFault inPlaces
   values-good = rw (in-range, no-host-bits, address-is (network (r .key)), key-split (r .key))
 
   pub line-read : readRow (line r) ≡ good (r .key) (r .hop)

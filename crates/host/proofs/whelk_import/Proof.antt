@@ -84,8 +84,8 @@ same-length-3 : tie.Need-same-length-3
 same-length-3 c = search needs
 
 -- the places where the number is known, where the slices are known after the import, and the import itself
-abbrev at-number : tie.After-t35 → tie.After-number-of
-at-number c = c .before .before .before .before
+abbrev at-number : tie.After-t40 → tie.After-number-of
+at-number c = c .before .before .before .before .before
 
 abbrev at-slices : tie.After-number-of → tie.After-slice-known5
 at-slices c = c .before .before .before .before
