@@ -23,8 +23,8 @@
 
 /* The version of this header, as text and as 10,000 x major + 100 x minor + patch. The major number goes up where a struct, a call or a
    number changes for those who use it. Nothing checks it against the archive: take both from one place. */
-#define WHELK_VERSION "1.0.0"
-#define WHELK_VERSION_NUMBER 10000
+#define WHELK_VERSION "2.0.0"
+#define WHELK_VERSION_NUMBER 20000
 
 /* What a compiler that has these attributes is told: a call takes no null pointer and its answer is to be looked at; which memory a call
    reads, fills without reading it, or changes, by the places of the pointer and the length among the parameters. gcc may then warn of an empty
@@ -96,11 +96,14 @@ static inline const char *whelk_number_text(size_t number)
 enum whelk_row_number {
     WHELK_ROW_TAKEN = 0,    /* its prefix and hop are in the list now; in a pull, a good row */
     WHELK_ROW_SHAPE = 1,    /* it isn't `a.b.c.d/len hop`, with 1 to 3 digits for an octet, 1 or 2 for the length and 1 to 5 for the hop; an empty
-                               row, a CR, a tab and a second space are wrong too. Zeros in front are fine, and 010 is ten */
-    WHELK_ROW_RANGE = 2,    /* its shape is right, but an octet is above 255, the length above 32, the hop 0 or above 65,535 */
+                               row, a CR, a tab and a second space are wrong too */
+    WHELK_ROW_RANGE = 2,    /* its shape is right and no number has a zero in front, but an octet is above 255, the length above 32, the hop 0 or
+                               above 65,535 */
     WHELK_ROW_HOSTBITS = 3, /* a bit of the address beyond the length is 1 */
     WHELK_ROW_REPEAT = 4,   /* an earlier row with the same prefix was taken */
-    WHELK_ROW_NOROOM = 5    /* the list is full */
+    WHELK_ROW_NOROOM = 5,   /* the list is full */
+    WHELK_ROW_ZEROS = 6     /* its shape is right, but a number of more than one digit starts with 0, as 010: some read that as ten and some as
+                               eight. This is judged after shape and before range */
 };
 
 /* A row's number in a word: what its count is called. Any number may be handed in; the text is constant. */
@@ -113,6 +116,7 @@ static inline const char *whelk_row_number_text(size_t number)
     case WHELK_ROW_HOSTBITS: return "hostbits";
     case WHELK_ROW_REPEAT: return "repeat";
     case WHELK_ROW_NOROOM: return "noroom";
+    case WHELK_ROW_ZEROS: return "zeros";
     default: return "a number that no row has";
     }
 }
@@ -145,7 +149,7 @@ static inline unsigned whelk_key_length(uint64_t key)
    matches. A list of n rows has at most 2n + 1 runs, and an empty list has one, with hop 0: build it before the first announcement. */
 #define WHELK_TOP_RUNS 2097153 /* the most runs of a run table */
 
-/* What an import returns: its number, and seven counts. rows is the sum of the six others. */
+/* What an import returns: its number, and eight counts. rows is the sum of the seven others. */
 struct whelk_counts {
     size_t number;
     size_t rows;
@@ -155,6 +159,7 @@ struct whelk_counts {
     size_t hostbits;
     size_t repeat;
     size_t noroom;
+    size_t zeros;
 };
 
 /* Imports a text feed as a new list. A row is `a.b.c.d/len hop`. It ends with an LF, and the last one may end with the feed. Each row is taken or
@@ -170,7 +175,7 @@ struct whelk_counts whelk_import(const uint8_t *feed, size_t feed_length, uint64
                                  size_t hops_length, uint8_t *report, size_t report_length)
     WHELK_CALL WHELK_READS(1, 2) WHELK_FILLS(3, 4) WHELK_FILLS(5, 6) WHELK_FILLS(7, 8);
 
-/* The seven counts in memory that the caller lends, as in whelk_counts. */
+/* The eight counts in memory that the caller lends, as in whelk_counts. */
 struct whelk_tally {
     size_t rows;
     size_t taken;
@@ -179,6 +184,7 @@ struct whelk_tally {
     size_t hostbits;
     size_t repeat;
     size_t noroom;
+    size_t zeros;
 };
 
 /* Imports a text feed as whelk_import does, with the counts in a lent tally, which goes up as rows go by. They are this feed's alone: the tally
@@ -191,7 +197,7 @@ size_t whelk_import_tally(const uint8_t *feed, size_t feed_length, uint64_t *key
     WHELK_CALL WHELK_READS(1, 2) WHELK_FILLS(3, 4) WHELK_FILLS(5, 6) WHELK_FILLS(7, 8);
 
 /* What a pull returns. Look at found first: it is 1 if there is a row at the place, and 0 if not. number is the row's and not the call's,
-   since a pull is never refused: 0 for a good row, 1 shape, 2 range, 3 host bits. key and hop are those of a good row. next is the place of
+   since a pull is never refused: 0 for a good row, 1 shape, 6 zeros, 2 range, 3 host bits. key and hop are those of a good row. next is the place of
    the next pull. What isn't said is 0. */
 struct whelk_row {
     size_t found;

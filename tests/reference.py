@@ -1,6 +1,6 @@
 #!/usr/bin/env python3
 """A reference for the tests: the rules for feeds, plain lookup, run tables, packed segments, edits, splits, a list's text and the program, in
-Python's standard library. It was written from the rules alone, all but packed segments, edits and the text by hands that had seen none of the
+Python's standard library. It was written from the rules alone, all but packed segments, edits, the text and zeros in front by hands that had seen none of the
 code it checks; made to be read against docs/RULES.md, not to be quick.
 
 A prefix is a pair (network, length), a route a triple (network, length, hop). As a program it reads a feed from standard input and writes
@@ -9,9 +9,11 @@ what the program `whelk` has to write.
 import re
 import sys
 
-NAMES = ["rows", "taken", "shape", "range", "hostbits", "repeat", "noroom"]
+NAMES = ["rows", "taken", "shape", "zeros", "range", "hostbits", "repeat", "noroom"]
 
-TAKEN, SHAPE, RANGE, HOST_BITS, REPEAT, NO_ROOM = range(6)
+TAKEN, SHAPE, RANGE, HOST_BITS, REPEAT, NO_ROOM, ZEROS = range(7)
+
+LINES = [TAKEN, SHAPE, ZEROS, RANGE, HOST_BITS, REPEAT, NO_ROOM]  # the row numbers in the order of NAMES
 
 SPACE = 2 ** 32          # an address is a number below this
 TOP_ROOM = 1_048_576     # the most rows that any list may hold
@@ -37,10 +39,12 @@ def size_of(length):
 
 
 def read_row(row):
-    """The prefix and hop of a good row, else its row number: 1 shape, 2 range, 3 host bits."""
+    """The prefix and hop of a good row, else its row number: 1 shape, 6 zeros, 2 range, 3 host bits."""
     form = FORM.fullmatch(row)
     if form is None:
         return SHAPE
+    if any(len(digits) > 1 and digits.startswith(b"0") for digits in form.groups()):
+        return ZEROS
     a, b, c, d, length, hop = (int(digits, 10) for digits in form.groups())
     if max(a, b, c, d) > 255 or length > 32 or not 1 <= hop <= 65_535:
         return RANGE
@@ -72,8 +76,8 @@ def import_feed(feed, room):
 
 
 def counts_of(numbers):
-    """The seven counts: rows, taken, and how many rows have each of the numbers 1 to 5."""
-    return [len(numbers)] + [numbers.count(n) for n in range(TAKEN, NO_ROOM + 1)]
+    """The eight counts: rows, and how many rows have each number, in the order of NAMES."""
+    return [len(numbers)] + [numbers.count(n) for n in LINES]
 
 
 def plain(routes, address):
@@ -191,7 +195,7 @@ def list_text(routes):
 
 
 def program_text(feed):
-    """What the program writes for a feed: seven counts and the run table, or `feed too long`."""
+    """What the program writes for a feed: eight counts and the run table, or `feed too long`."""
     if len(feed) > PROGRAM_BYTES:
         return "feed too long\n"
     numbers, routes = import_feed(feed, PROGRAM_ROOM)

@@ -13,13 +13,14 @@ static const char usage[] =
     "usage: whelk-import [--list] [--quiet] [--] [FILE]\n"
     "Reads a route feed from FILE, a row a line: a.b.c.d/len hop\n"
     "Without FILE, or if FILE is -, it reads standard input.\n"
-    "Names every refused row as FILE:LINE: reason: the row, then prints the seven counts.\n"
+    "Names every refused row as FILE:LINE: reason: the row, then prints the eight counts.\n"
     "Of a row with more than 200 bytes it prints the first 200 and says how many it has.\n"
     "Lines behind the counts that begin with hint: say what rows of bad shape look like, as\n"
     "with a CR at the end or without a hop, how many do, and what helps. A hint counts rows\n"
     "that no hint above it has counted.\n"
     "It changes no file. The reason is the first that holds:\n"
     "  shape     not of that form: also a CR at the end, a tab, a comment, an empty row\n"
+    "  zeros     a number of more than one digit starts with 0, as 010: ten to some, eight to others\n"
     "  range     an octet over 255, a length over 32, a hop of 0 or over 65535\n"
     "  hostbits  a bit of the address beyond the length is 1\n"
     "  repeat    an earlier row with the same prefix was taken\n"
@@ -338,8 +339,8 @@ int main(int argc, char **argv)
     if (list) setvbuf(stderr, NULL, _IOFBF, BUFSIZ);
     size_t fit[PATTERNS] = {0};
     name_refused(quiet ? NULL : out, name, feed, length, report, fit);
-    fprintf(out, "rows %zu\ntaken %zu\nshape %zu\nrange %zu\nhostbits %zu\nrepeat %zu\nnoroom %zu\n", counts.rows, counts.taken,
-            counts.shape, counts.range, counts.hostbits, counts.repeat, counts.noroom);
+    fprintf(out, "rows %zu\ntaken %zu\nshape %zu\nzeros %zu\nrange %zu\nhostbits %zu\nrepeat %zu\nnoroom %zu\n", counts.rows, counts.taken,
+            counts.shape, counts.zeros, counts.range, counts.hostbits, counts.repeat, counts.noroom);
     print_hints(out, name, fit);
     int failed = sent(out, list ? "standard error" : "standard output");
     if (!failed && list) failed = print_list(counts.taken, keys, hops);

@@ -37,7 +37,8 @@ IMPORTS = [
     ("lengths", b"0.0.0.0/0 1\n0.0.0.0/32 2\n0.0.0.0/33 1\n0.0.0.0/99 1\n0.0.0.0/100 1\n0.0.0.0/032 1\n", 3, 3, 7),
     ("hops", b"1.0.0.0/8 65535\n2.0.0.0/8 65536\n3.0.0.0/8 70000\n4.0.0.0/8 100000\n5.0.0.0/8 0\n"
      b"6.0.0.0/8 00000\n7.0.0.0/8 000001\n", 2, 2, 9),
-    ("leading zeros", b"010.000.00.0/08 00007\n10.0.0.0/8 9\n001.002.003.000/24 01\n", 3, 3, 4),
+    ("leading zeros", b"010.000.00.0/08 00007\n10.0.0.0/8 9\n001.002.003.000/24 01\n10.0.0.0/8 00\n0.0.0.0/0 100\n", 3, 3, 6),
+    ("zeros after shape and before range", b"010.0.0.256/8 7\n010.0.0.0/8 7x\n10.0.0.0/033 7\n10.0.0.1/08 0\n", 2, 2, 5),
     ("host bits", b"10.0.0.1/8 1\n10.0.0.1/31 1\n10.0.0.1/32 1\n128.0.0.0/0 1\n128.0.0.0/1 2\n0.0.0.1/0 1\n", 3, 3, 7),
     ("shape before range before host bits", b"999.2.3.4/5 6x\n999.2.3.4/5 6\n1.2.3.4/5 6\n1.2.3.4/5 0\n", 2, 2, 5),
     ("slices of length 0", b"1.0.0.0/8 1\n\n1.0.0.0/8 1\n", 0, 0, 4),
@@ -134,7 +135,7 @@ def show_import(name, feed, keys, hops, report):
     numbers, routes = import_feed(feed, min(keys, hops))
     number, counts = 0, counts_of(numbers)
     if report < len(numbers):
-        number, counts, numbers, routes = 12, [0] * 7, [], []
+        number, counts, numbers, routes = 12, [0] * 8, [], []
     print("# Import:", name)
     line("number", [number])
     line("counts", counts)

@@ -144,7 +144,7 @@ static void imports(void)
                     size_t report = tried(r, ROWS), rows = feed ? ROWS : 0;
                     size_t room = keys < hops ? keys : hops, fit = room < rows ? room : rows;
                     uint8_t numbers[ROWS];
-                    struct whelk_tally t = {1, 2, 3, 4, 5, 6, 7};
+                    struct whelk_tally t = {1, 2, 3, 4, 5, 6, 7, 8};
                     const struct whelk_tally was = t;
                     struct whelk_counts c;
                     for (size_t i = 0; i < ROWS; i++) numbers[i] = i < fit ? taken[i] : 5;
@@ -164,7 +164,7 @@ static void imports(void)
                         call(name, c.number == 12 && c.rows == 0 && c.taken == 0 && list_stays() && stays(REPORT));
                     } else {
                         call(name, c.number == 0 && c.rows == rows && c.taken == fit && c.noroom == rows - fit &&
-                             c.shape + c.range + c.hostbits + c.repeat == 0 && left(KEYS, list_keys, fit) && left(HOPS, list_hops, fit) &&
+                             c.shape + c.zeros + c.range + c.hostbits + c.repeat == 0 && left(KEYS, list_keys, fit) && left(HOPS, list_hops, fit) &&
                              left(REPORT, numbers, rows));
                     }
                     call(name, stays(FEED));

@@ -19,7 +19,7 @@ static void imports(void)
     struct whelk_counts c =
         whelk_import((const uint8_t *)five, strlen(five), keys, 4, hops, 4, report, 6);
     check("five rows: counts", c.number == 0 && c.rows == 5 && c.taken == 1 && c.shape == 1 && c.range == 1 && c.hostbits == 1 &&
-                                   c.repeat == 1 && c.noroom == 0);
+                                   c.repeat == 1 && c.noroom == 0 && c.zeros == 0);
     const uint8_t numbers[6] = {0, 3, 4, 1, 2, 99};
     check("five rows: report", memcmp(report, numbers, 6) == 0);
     check("five rows: list", keys[0] == key(10, 0, 0, 0, 8) && hops[0] == 7 && keys[1] == 77 && hops[1] == 88);

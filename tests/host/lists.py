@@ -13,7 +13,7 @@ import subprocess
 import sys
 
 sys.path.insert(0, str(pathlib.Path(__file__).resolve().parent.parent))
-from reference import NAMES, SHAPE, TAKEN, TOP_ROOM, counts_of, import_feed, list_text, rows_of
+from reference import LINES, NAMES, SHAPE, TAKEN, TOP_ROOM, counts_of, import_feed, list_text, rows_of
 
 FOUR = rb"\d+(\.\d+){3}"
 HINTS = (
@@ -65,7 +65,7 @@ def expected(feed):
     """What `whelk-import --list` has to print for a feed on its two streams, and its exit status."""
     numbers, routes = import_feed(feed, TOP_ROOM)
     refused = [
-        f"-:{line}: {NAMES[number + 1]}: {shown(row)}\n"
+        f"-:{line}: {NAMES[LINES.index(number) + 1]}: {shown(row)}\n"
         for line, (row, number) in enumerate(zip(rows_of(feed), numbers), 1)
         if number != TAKEN
     ]

@@ -2,12 +2,12 @@
 """Writes a feed of so many rows to a file, and the list that it leaves, as text, to another. Prints what whelk-import has to print where it
 reads the feed from standard input.
 
-The rows are in key order and their prefixes nest. Every 701st is faulty: the four faults in turn, each in a row like the last one taken.
+The rows are in key order and their prefixes nest. Every 701st is faulty: the five faults in turn, each in a row like the last one taken.
 """
 import sys
 
 TOP_ROOM = 1048576
-REASONS = ("shape", "range", "hostbits", "repeat", "noroom")
+REASONS = ("shape", "zeros", "range", "hostbits", "repeat", "noroom")
 
 
 def prefixes():
@@ -25,8 +25,8 @@ def prefixes():
 
 def fault(i, last):
     """The i-th faulty row, and what is wrong with it."""
-    rows = (last + "  7", last + " 65536", last.replace(".0/", ".1/") + " 7", last + " 7")
-    return rows[i % 4], REASONS[i % 4]
+    rows = (last + "  7", last + " 07", last + " 65536", last.replace(".0/", ".1/") + " 7", last + " 7")
+    return rows[i % 5], REASONS[i % 5]
 
 
 rows, good, last, taken = int(sys.argv[1]), prefixes(), "", 0

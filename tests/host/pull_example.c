@@ -4,7 +4,7 @@
 
 int main(void)
 {
-    const uint8_t feed[] = "10.0.0.0/8 7\n10.0.0.1/8 7\n\n10.1.0.0/16 70000\n010.064.0.0/10 009";
+    const uint8_t feed[] = "10.0.0.0/8 7\n10.0.0.1/8 7\n\n10.1.0.0/16 70000\n010.0.0.0/8 7\n10.64.0.0/10 9";
     struct whelk_row r = whelk_pull(feed, sizeof feed - 1, 0);
     for (; r.found; r = whelk_pull(feed, sizeof feed - 1, r.next)) {
         uint32_t network = whelk_key_network(r.key);

@@ -19,16 +19,18 @@ static int same(struct whelk_row a, struct whelk_row b)
     return a.found == b.found && a.number == b.number && a.key == b.key && a.hop == b.hop && a.next == b.next;
 }
 
-/* A row by itself. All of its bytes that are no digits, put together, must be the five marks, and then only how many digits stand between
-   them and what these are worth is of interest. */
+/* A row by itself. All of its bytes that are no digits, put together, must be the five marks, and then only the digits between them are of
+   interest: how many there are, which is the first, and what they are worth. */
 static struct whelk_row reading(const uint8_t *row, size_t length, size_t next)
 {
     static const char marks[] = ".../ ";
     static const size_t most[6] = {3, 3, 3, 3, 2, 5};
     size_t digits[6] = {0}, field = 0;
     unsigned long value[6] = {0};
+    uint8_t first[6] = {0};
     for (size_t i = 0; i < length; i++) {
         if (strchr("0123456789", row[i]) != NULL && row[i] != 0) {
+            if (digits[field] == 0) first[field] = row[i];
             digits[field]++;
             if (digits[field] <= most[field]) value[field] = value[field] * 10 + (unsigned long)(row[i] - '0');
         } else if (field == 5 || row[i] != (uint8_t)marks[field])
@@ -39,6 +41,8 @@ static struct whelk_row reading(const uint8_t *row, size_t length, size_t next)
     if (field != 5) return row_of(1, 1, 0, 0, next);
     for (field = 0; field < 6; field++)
         if (digits[field] == 0 || digits[field] > most[field]) return row_of(1, 1, 0, 0, next);
+    for (field = 0; field < 6; field++)
+        if (digits[field] > 1 && first[field] == '0') return row_of(1, 6, 0, 0, next);
     uint64_t network = 0;
     for (field = 0; field < 4; field++) {
         if (value[field] > 255) return row_of(1, 2, 0, 0, next);
@@ -74,7 +78,7 @@ static int every_place(const uint8_t *feed, size_t length)
 
 enum { top_rows = 4096, top_bytes = 131072 };
 
-/* Pulls from place 0 until there is no row, beside the import of the feed into so much room: as many rows as it counts, 1, 2 and 3 where
+/* Pulls from place 0 until there is no row, beside the import of the feed into so much room: as many rows as it counts, 1, 2, 3 and 6 where
    its report has them, and a key and a hop where it has 0, 4 or 5. A taken row stands in the list. */
 static int in_turn(const uint8_t *feed, size_t length, size_t room)
 {
@@ -82,7 +86,7 @@ static int in_turn(const uint8_t *feed, size_t length, size_t room)
     static uint16_t hops[top_rows];
     static uint8_t report[top_rows];
     struct whelk_counts c = whelk_import(feed, length, keys, room, hops, room, report, top_rows);
-    size_t rows = 0, faults[4] = {0}, place = 0;
+    size_t rows = 0, faults[7] = {0}, place = 0;
     int ok = c.number == WHELK_DONE;
     for (;;) {
         struct whelk_row r = whelk_pull(feed, length, place);
@@ -91,9 +95,9 @@ static int in_turn(const uint8_t *feed, size_t length, size_t room)
             ok &= same(r, row_of(0, 0, 0, 0, length));
             break;
         }
-        if (rows == c.rows || r.next <= place || r.number > 3) return 0;
+        if (rows == c.rows || r.next <= place || r.number > 6) return 0;
         uint8_t number = report[rows++];
-        ok &= r.number == (number >= 1 && number <= 3 ? number : 0);
+        ok &= r.number == (number == 4 || number == 5 ? 0 : number);
         ok &= (r.number == 0) == (r.hop != 0);
         faults[r.number]++;
         if (number == 0) {
@@ -104,13 +108,13 @@ static int in_turn(const uint8_t *feed, size_t length, size_t room)
         place = r.next;
     }
     return ok & (rows == c.rows) & (faults[0] == c.taken + c.repeat + c.noroom) & (faults[1] == c.shape) & (faults[2] == c.range) &
-           (faults[3] == c.hostbits);
+           (faults[3] == c.hostbits) & (faults[6] == c.zeros) & (faults[4] + faults[5] == 0);
 }
 
 static int counts_are(const struct whelk_tally *t, const struct whelk_counts *c)
 {
     return t->rows == c->rows && t->taken == c->taken && t->shape == c->shape && t->range == c->range && t->hostbits == c->hostbits &&
-           t->repeat == c->repeat && t->noroom == c->noroom;
+           t->repeat == c->repeat && t->noroom == c->noroom && t->zeros == c->zeros;
 }
 
 /* The import with a lent tally beside the one that returns its counts, into so much room and a report of just so many bytes, and then into
@@ -183,7 +187,12 @@ static void by_hand(void)
     check("one LF is one empty row", gives("\n", 0, 1, 1, 0, 0, 1) && gives("\n", 1, 0, 0, 0, 0, 1));
     check("the greatest values", gives("255.255.255.255/32 65535\n", 0, 1, 0, (uint64_t)0xffffffff * 64 + 32, 65535, 25));
     check("the smallest values", gives("0.0.0.0/0 1", 0, 1, 0, 0, 1, 11));
-    check("zeros in front", gives("010.000.000.000/08 00007\n", 0, 1, 0, ten, 7, 25));
+    check("zeros in front", gives("010.000.000.000/08 00007\n", 0, 1, 6, 0, 0, 25) && gives("10.0.0.00/8 7", 0, 1, 6, 0, 0, 13) &&
+                                gives("10.0.0.0/08 7", 0, 1, 6, 0, 0, 13) && gives("10.0.0.0/8 07", 0, 1, 6, 0, 0, 13));
+    check("zeros after shape", gives("010.0.0.0/8 7x", 0, 1, 1, 0, 0, 14));
+    check("zeros before range and host bits", gives("010.0.0.256/8 7", 0, 1, 6, 0, 0, 15) && gives("10.0.0.1/08 7", 0, 1, 6, 0, 0, 13));
+    check("hop 00, and a zero behind a digit", gives("10.0.0.0/8 00", 0, 1, 6, 0, 0, 13) && gives("10.0.0.0/8 70", 0, 1, 0, ten, 70, 13));
+    check("in mid-row a zero comes to the front", gives("100.0.0.0/8 7", 1, 1, 6, 0, 0, 13));
     check("a CR before the LF", gives("10.0.0.0/8 7\r\n", 0, 1, 1, 0, 0, 14));
     check("shape before range", gives("999.2.3.4/5 6x", 0, 1, 1, 0, 0, 14));
     check("four digits", gives("1000.0.0.0/8 7", 0, 1, 1, 0, 0, 14));
@@ -202,13 +211,14 @@ static void tally_by_hand(void)
     uint64_t keys[4];
     uint16_t hops[4];
     uint8_t report[5];
-    struct whelk_tally t = {9, 9, 9, 9, 9, 9, 9};
+    struct whelk_tally t = {9, 9, 9, 9, 9, 9, 9, 9};
     check("a tally: a short report is 12",
           whelk_import_tally((const uint8_t *)five, strlen(five), keys, 4, hops, 4, report, 4, &t) == WHELK_REPORT_SHORT);
-    check("a tally: on 12 it stays as it was", t.rows == 9 && t.taken == 9 && t.noroom == 9);
+    check("a tally: on 12 it stays as it was", t.rows == 9 && t.taken == 9 && t.noroom == 9 && t.zeros == 9);
     check("a tally: done", whelk_import_tally((const uint8_t *)five, strlen(five), keys, 4, hops, 4, report, 5, &t) == WHELK_DONE);
     check("a tally: five rows",
-          t.rows == 5 && t.taken == 1 && t.shape == 1 && t.range == 1 && t.hostbits == 1 && t.repeat == 1 && t.noroom == 0);
+          t.rows == 5 && t.taken == 1 && t.shape == 1 && t.range == 1 && t.hostbits == 1 && t.repeat == 1 && t.noroom == 0 &&
+              t.zeros == 0);
     check("a tally: the list", keys[0] == (uint64_t)0x0a000000 * 64 + 8 && hops[0] == 7 && memcmp(report, "\0\3\4\1\2", 5) == 0);
 }
 
@@ -241,7 +251,8 @@ static uint32_t draw(uint32_t below)
     return seed % below;
 }
 
-/* Drawn rows, of which some are good, some repeat, and some have a value or a byte that spoils them. */
+/* Drawn rows, of which some are good, some repeat, and some have a value, a zero in front or a byte that spoils
+   them. */
 static size_t drawn(uint8_t *feed, int rows, int last_lf)
 {
     size_t n = 0;

@@ -5,7 +5,7 @@ from ctypes import CDLL, Structure, byref, c_size_t, c_uint8, c_uint16, c_uint32
 
 
 class Counts(Structure):
-    _fields_ = [(name, c_size_t) for name in ("number", "rows", "taken", "shape", "range", "hostbits", "repeat", "noroom")]
+    _fields_ = [(name, c_size_t) for name in ("number", "rows", "taken", "shape", "range", "hostbits", "repeat", "noroom", "zeros")]
 
 
 class Tally(Structure):
@@ -59,7 +59,7 @@ keys, hops, report = (c_uint64 * 4)(), (c_uint16 * 4)(), (c_uint8 * 4)()
 starts, run_hops, text = (c_uint32 * 9)(), (c_uint16 * 9)(), (c_uint8 * 30)(*(30 * b"-"))
 counts = library.whelk_import(*lent(feed, keys, hops, report))
 answers = [
-    ([getattr(counts, name) for name, _ in Counts._fields_], [0, 3, 2, 0, 0, 1, 0, 0]),
+    ([getattr(counts, name) for name, _ in Counts._fields_], [0, 3, 2, 0, 0, 1, 0, 0, 0]),
     (list(report), [0, 0, 3, 0]),
     (library.whelk_write(2, *lent(keys, hops, text)), 28),
     (bytes(text), b"10.0.0.0/8 7\n10.64.0.0/16 9\n--"),
@@ -71,12 +71,12 @@ answers = [
     (library.whelk_run_lookup_slices(5, *lent(starts, run_hops), 0xA400001), 2 * 2**32 + 9),
     (library.whelk_run_lookup_slices(0, *lent(starts, run_hops), 0), 65536 * 11),
 ]
-tally = Tally(9, 9, 9, 9, 9, 9, 9)
+tally = Tally(9, 9, 9, 9, 9, 9, 9, 9)
 answers += [
     (library.whelk_import_tally(*lent(feed, keys, hops), report, 2, byref(tally)), 12),
-    ([getattr(tally, name) for name, _ in Tally._fields_], [9, 9, 9, 9, 9, 9, 9]),
+    ([getattr(tally, name) for name, _ in Tally._fields_], [9, 9, 9, 9, 9, 9, 9, 9]),
     (library.whelk_import_tally(*lent(feed, keys, hops, report), byref(tally)), 0),
-    ([getattr(tally, name) for name, _ in Tally._fields_], [3, 2, 0, 0, 1, 0, 0]),
+    ([getattr(tally, name) for name, _ in Tally._fields_], [3, 2, 0, 0, 1, 0, 0, 0]),
 ]
 for place, wanted in (
     (0, [1, 0, (10 << 24) * 64 + 8, 7, 13]),

@@ -38,9 +38,13 @@ def random_row(some):
 
 
 def faulty_row(some):
-    """A row of the form with numbers at random, which are often out of range or leave host bits."""
-    octets = ".".join(str(some.choice((0, 0, 1, 10, 255, 256, some.randrange(1000)))) for _ in range(4))
-    return f"{octets}/{some.choice((0, 8, 24, 32, 33, some.randrange(100)))} {some.choice((0, 1, 7, 65535, 65536, 99999))}\n".encode()
+    """A row with numbers at random, which are often out of range, leave host bits, or have zeros in front."""
+    numbers = [some.choice((0, 0, 1, 10, 255, 256, some.randrange(1000))) for _ in range(4)]
+    numbers += [some.choice((0, 8, 24, 32, 33, some.randrange(100))), some.choice((0, 1, 7, 65535, 65536, 99999))]
+    texts = [str(number) for number in numbers]
+    if some.randrange(3) == 0:
+        texts[some.randrange(6)] = some.choice(("0", "00")) + some.choice(("0", "1", "8"))
+    return "{}.{}.{}.{}/{} {}\n".format(*texts).encode()
 
 
 def damaged(some, feed):

@@ -18,7 +18,7 @@ use Rattle.feed.specs.declared.Imported.{Imported}
 use Rattle.feed.specs.declared.ImportEnd.{ImportEnd}
 use Rattle.feed.specs.declared.ImportEnd.the-variants.{Done, ReportShort}
 use Rattle.feed.specs.Rows.{rowsIn}
-use Rattle.feed.specs.RowNumber.{rowsWith, rowTaken, rowShape, rowRange, rowHostBits, rowRepeat, rowNoRoom}
+use Rattle.feed.specs.RowNumber.{rowsWith, rowTaken, rowShape, rowZeros, rowRange, rowHostBits, rowRepeat, rowNoRoom}
 use Rattle.feed.specs.Import.{ImportLent, ImportOutcome, importGave, import, importChecks, importRefused, rowNumbers, endNumber, TallyGave}
 use Rattle.feed.proofs.Promise.{rows-are-taken-and-refused, rows-are-all-rows, report-has-numbers}
 use Rattle.feed.proofs.TallyPromise.{tally-is-counts, tally-untouched}
@@ -135,7 +135,8 @@ pub record EveryRow (feed : List ℕ) (l : ImportLent) (c : Counts) (report : Li
   pub all-rows : c .rows ≡ length (rowsIn feed)
   pub taken-and-refused : c .rows
       ≡ rowsWith rowTaken c
-      + (rowsWith rowShape c + (rowsWith rowRange c + (rowsWith rowHostBits c + (rowsWith rowRepeat c + rowsWith rowNoRoom c))))
+      + (rowsWith rowShape c
+      + (rowsWith rowZeros c + (rowsWith rowRange c + (rowsWith rowHostBits c + (rowsWith rowRepeat c + rowsWith rowNoRoom c)))))
   pub each-numbered : take (c .rows) report ≡ rowNumbers (listRoom (l .keys) (l .hops)) feed
 
 pub every-row : (feed : List ℕ) (l : ImportLent) (r : Imported) (keys hops report : List ℕ) → importGave r keys hops report ≡ import feed l

@@ -1,6 +1,7 @@
--- The values of a row, judged as the code does it: test by test for the range, then host bits by the prefix test on the key.
+-- A row of the form, judged as the code does it: zeros in front, then test by test for the range, then host bits by the prefix test on
+-- the key.
 -- Assumes nothing.
-use mathlib.Core.Path.{_≡_, sym, ap, _∙_, subst}
+use mathlib.Core.Path.{_≡_, refl, sym, ap, _∙_, subst}
 use mathlib.Core.Logic.{⊎-elim}
 use mathlib.Core.Bool.{true, false, not}
 use Prim.Native.Nat.{ℕ, _<_, _≤_}
@@ -12,8 +13,8 @@ use Rattle.ground.proofs.Truth.{decided, never-both}
 use Rattle.cidr.specs.Prefix.{keyOf, lengthOf, hostBits, isPrefix}
 use Rattle.cidr.proofs.Prefix.{Prefix, prefix-parts, length-key, network-key}
 use Rattle.feed.specs.declared.parse.Values.{Values}
-use Rattle.feed.specs.RowNumber.{rowRange, rowHostBits}
-use Rattle.feed.specs.Reading.{good, bad, addressOf, outOfRange, hasHostBits, valueFault, judgedValues}
+use Rattle.feed.specs.RowNumber.{rowZeros, rowRange, rowHostBits}
+use Rattle.feed.specs.Reading.{good, bad, addressOf, outOfRange, hasHostBits, numbersFault, judgedNumbers}
 use Rattle.feed.proofs.Reading.{in-range, good-prefix}
 
 at-most-not-above : (x n : ℕ) → leb x n ≡ not (ltb n x)
@@ -79,19 +80,23 @@ no-bits : (v : Values) → hostBits (v .len) (addressOf v) ≡ 0 → hasHostBits
 unfolding hasHostBits
 no-bits v e = ap not (eq-eqb (hostBits (v .len) (addressOf v)) 0 e)
 
--- the three readings of values
+-- the four readings of a row of the form
 module _ (v : Values) where
-  pub reads-range : outOfRange v ≡ true → bad rowRange ≡ judgedValues v
-  unfolding judgedValues valueFault firstFault
+  pub reads-zeros : bad rowZeros ≡ judgedNumbers true v
+  unfolding judgedNumbers numbersFault firstFault
+  reads-zeros = refl
+
+  pub reads-range : outOfRange v ≡ true → bad rowRange ≡ judgedNumbers false v
+  unfolding judgedNumbers numbersFault firstFault
   reads-range e = rw e
 
   module _ (e : outOfRange v ≡ false) where
-    reads-host-bits : hasHostBits v ≡ true → bad rowHostBits ≡ judgedValues v
-    unfolding judgedValues valueFault firstFault
+    reads-host-bits : hasHostBits v ≡ true → bad rowHostBits ≡ judgedNumbers false v
+    unfolding judgedNumbers numbersFault firstFault
     reads-host-bits f = rw (e, f)
 
-    reads-good : hasHostBits v ≡ false → good (keyOf (addressOf v) (v .len)) (v .hop) ≡ judgedValues v
-    unfolding judgedValues valueFault firstFault
+    reads-good : hasHostBits v ≡ false → good (keyOf (addressOf v) (v .len)) (v .hop) ≡ judgedNumbers false v
+    unfolding judgedNumbers numbersFault firstFault
     reads-good f = rw (e, f)
 
     -- in range, the key is a prefix exactly where no host bit is set
@@ -108,8 +113,8 @@ module _ (v : Values) where
             (subst (λ x. hostBits x (addressOf v) ≡ 0) (length-key (addressOf v) (v .len) small)
             (subst (λ x. hostBits (lengthOf (keyOf (addressOf v) (v .len))) x ≡ 0) (network-key (addressOf v) (v .len) small) (p .aligned)))
 
-    pub reads-no-prefix : isPrefix (keyOf (addressOf v) (v .len)) ≡ false → bad rowHostBits ≡ judgedValues v
+    pub reads-no-prefix : isPrefix (keyOf (addressOf v) (v .len)) ≡ false → bad rowHostBits ≡ judgedNumbers false v
     reads-no-prefix p = ⊎-elim reads-host-bits (λ f. never-both (good-prefix v (in-range v e) f) p) (decided (hasHostBits v))
 
-    pub reads-prefix : isPrefix (keyOf (addressOf v) (v .len)) ≡ true → good (keyOf (addressOf v) (v .len)) (v .hop) ≡ judgedValues v
+    pub reads-prefix : isPrefix (keyOf (addressOf v) (v .len)) ≡ true → good (keyOf (addressOf v) (v .len)) (v .hop) ≡ judgedNumbers false v
     reads-prefix p = ⊎-elim (λ f. never-both p (host-bits-no-prefix f)) reads-good (decided (hasHostBits v))

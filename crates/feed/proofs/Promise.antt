@@ -24,7 +24,7 @@ use Rattle.feed.specs.declared.Counts.{Counts}
 use Rattle.feed.specs.declared.Imported.{Imported}
 use Rattle.feed.specs.declared.ImportEnd.the-variants.{Done, ReportShort}
 use Rattle.feed.specs.Rows.{rowsIn}
-use Rattle.feed.specs.RowNumber.{rowTaken, rowShape, rowRange, rowHostBits, rowRepeat, rowNoRoom}
+use Rattle.feed.specs.RowNumber.{rowTaken, rowShape, rowZeros, rowRange, rowHostBits, rowRepeat, rowNoRoom}
 use Rattle.feed.specs.RowNumber.{reasons, countsOf, noCounts, rowsWith, rowsNamed}
 use Rattle.feed.specs.Import.{rowNumbers, importedList, ImportLent, importRefused, importAccepted, import, endNumber, importGave}
 use Rattle.ground.proofs.Slots.{length-written}
@@ -67,7 +67,8 @@ module _ (feed : List ℕ) (l : ImportLent) {r : Imported} {keys hops report : L
   -- demand 1: rows in are rows taken and rows refused, reason by reason
   pub rows-are-taken-and-refused : c .rows
       ≡ rowsWith rowTaken c
-      + (rowsWith rowShape c + (rowsWith rowRange c + (rowsWith rowHostBits c + (rowsWith rowRepeat c + rowsWith rowNoRoom c))))
+      + (rowsWith rowShape c
+      + (rowsWith rowZeros c + (rowsWith rowRange c + (rowsWith rowHostBits c + (rowsWith rowRepeat c + rowsWith rowNoRoom c)))))
   unfolding rowsNamed
   rows-are-taken-and-refused = summed ∙ rw add-zero
     where

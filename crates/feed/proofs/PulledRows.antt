@@ -1,5 +1,5 @@
--- Pulls from the feed's start on give what its rows say, all of them in their order, and then no row. So the numbers 1, 2 and 3 that an
--- import gives are those that the pulls give.
+-- Pulls from the feed's start on give what its rows say, all of them in their order, and then no row. So the numbers 1, 6, 2 and 3 that
+-- an import gives are those that the pulls give.
 -- Assumes nothing.
 use mathlib.Core.Path.{_≡_, refl, sym, ap, _∙_}
 use mathlib.Core.Logic.{_⊎_, inl, inr}
@@ -19,10 +19,11 @@ use Rattle.feed.specs.declared.RowRead.{RowRead}
 use Rattle.feed.specs.declared.NextRow.the-variants.{Row, End}
 use Rattle.feed.specs.declared.Reader.{Reader}
 use Rattle.feed.specs.Rows.{rowsIn, rowLength}
-use Rattle.feed.specs.RowNumber.{rowTaken, rowShape, rowHostBits, rowRepeat, rowNoRoom}
+use Rattle.feed.specs.RowNumber.{rowTaken, rowRepeat, rowNoRoom}
 use Rattle.feed.specs.Reading.{Reading, good, bad, readRow, readingOf}
 use Rattle.feed.specs.Import.{rowNumber, rowNumbers}
 use Rattle.feed.specs.Pull.{Pulled, before, pull, pullsFrom, pulls, PulledBy}
+use Rattle.feed.proofs.Reading.{OwnFault, own}
 use Rattle.feed.proofs.Splitting.{rows-from, no-rows-at-end, rows-at-most}
 use Rattle.feed.proofs.Pulling.{pull-at-end, pull-row}
 use Rattle.feed.proofs.Importing.{number-of-row}
@@ -102,21 +103,21 @@ reader-gives-rows r xs p =
     let n : ℕ = suc (length xs + length (rowsIn (drop (r .place) feed))) in
     sym (pulls-in-turn p n (omega arith)) ∙ pulls-are-rows-from feed n (r .place) (omega arith)
 
--- The numbers 1, 2 and 3 of an import are those of the pulls, row by row: they hang on the row alone.
+-- The numbers 1, 6, 2 and 3 of an import are those of the pulls, row by row: they hang on the row alone.
 module _ (room : ℕ) (list : List ListRow) where
   bad-is-itself : (n : ℕ) {x : Reading} → x ≡ bad n → rowNumber room list x ≡ n
   unfolding rowNumber
   bad-is-itself n e = ap (rowNumber room list) e
 
-  small-is-bad : (n : ℕ) (x : Reading) → rowShape ≤ n → n ≤ rowHostBits → rowNumber room list x ≡ n → x ≡ bad n
+  own-is-bad : (n : ℕ) (x : Reading) → OwnFault n → rowNumber room list x ≡ n → x ≡ bad n
   unfolding rowNumber firstFault
-  small-is-bad n (bad m) low high e = ap bad e
-  small-is-bad n (good k h) low high e = absurd (go (listed k list) (leb room (length list)) e)
+  own-is-bad n (bad m) o e = ap bad e
+  own-is-bad n (good k h) o e = absurd (go (listed k list) (leb room (length list)) e)
     where
       go : (b c : Bool) → cond b rowRepeat (cond c rowNoRoom rowTaken) ≡ n → ⊥
-      go true c q = omega arith
-      go false true q = omega arith
-      go false false q = omega arith
+      go true c q = own o .not-repeat (sym q)
+      go false true q = own o .not-no-room (sym q)
+      go false false q = own o .not-taken (sym q)
 
 module _ (room : ℕ) (feed : List ℕ) (i n : ℕ) (within : i < length (rowsIn feed)) where
   abbrev pulled : Reading
@@ -134,7 +135,7 @@ module _ (room : ℕ) (feed : List ℕ) (i n : ℕ) (within : i < length (rowsIn
   pub bad-pull-is-number : getD (pulls feed) i (bad 9) ≡ bad n → getD (rowNumbers room feed) i 9 ≡ n
   bad-pull-is-number e = number-of-row room feed i within ∙ bad-is-itself room _ n (sym pulled-is-row ∙ e)
 
-  -- where the import gives 1, 2 or 3 the pull is bad with that number
-  pub number-is-bad-pull : rowShape ≤ n → n ≤ rowHostBits → getD (rowNumbers room feed) i 9 ≡ n → getD (pulls feed) i (bad 9) ≡ bad n
-  number-is-bad-pull low high e =
-      pulled-is-row ∙ small-is-bad room _ n _ low high (sym (number-of-row room feed i within) ∙ e)
+  -- where the import gives 1, 6, 2 or 3 the pull is bad with that number
+  pub number-is-bad-pull : OwnFault n → getD (rowNumbers room feed) i 9 ≡ n → getD (pulls feed) i (bad 9) ≡ bad n
+  number-is-bad-pull o e =
+      pulled-is-row ∙ own-is-bad room _ n _ o (sym (number-of-row room feed i within) ∙ e)

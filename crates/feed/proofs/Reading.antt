@@ -1,4 +1,4 @@
--- What a reading says holds: a good row has a prefix and a hop of 1 to 65,535, and a bad row's number is 1, 2 or 3.
+-- What a reading says holds: a good row has a prefix and a hop of 1 to 65,535, and a bad row's number is 1, 6, 2 or 3.
 -- Assumes nothing.
 use mathlib.Core.Path.{_≡_, refl, sym, subst}
 use mathlib.Core.Bool.{Bool, true, false, cond, _||_}
@@ -7,14 +7,16 @@ use mathlib.Core.Option.{Option, none, some}
 use Prim.Native.Nat.{ℕ, _≤_, _<_}
 use native.Mathlib.Omega.{arith}
 use borrow.Author.Tests.{ltb-false, eqb-false, eqb-true}
-use lib.Dec.{ltb, eqb, lit≤}
+use lib.Dec.{ltb, eqb, lit<}
+use lib.ListN.{length}
 use Rattle.ground.specs.Numbers.{firstFault}
 use Rattle.ground.proofs.Truth.{or-neither, not-false}
 use Rattle.cidr.specs.Prefix.{addresses, keyOf, network, lengthOf, hostBits, isPrefix}
 use Rattle.cidr.proofs.Prefix.{parts-prefix, network-key, length-key}
 use Rattle.feed.specs.declared.parse.Values.{Values}
-use Rattle.feed.specs.Reading.{Reading, good, bad, addressOf, outOfRange, hasHostBits, valueFault, judgedValues}
-use Rattle.feed.specs.Reading.{valuesOf, judged, readRow, fieldsOf, form}
+use Rattle.feed.specs.RowNumber.{rowTaken, rowShape, rowZeros, rowRange, rowHostBits, rowRepeat, rowNoRoom, rowNames}
+use Rattle.feed.specs.Reading.{Reading, good, bad, addressOf, outOfRange, hasHostBits, numbersFault, judgedNumbers}
+use Rattle.feed.specs.Reading.{hasZeroInFront, valuesOf, judged, readRow, fieldsOf, form}
 
 -- the numbers of a row are in range
 pub record InRange (v : Values) : Type 0 where
@@ -65,10 +67,30 @@ module _ (v : Values) (e : outOfRange v ≡ false) where
     hop-fits = ltb-false _ _ (hop-parts .1);
   }
 
+-- the numbers that a row can get by itself
+pub data OwnFault : ℕ → Type 0 where
+  shape : OwnFault rowShape
+  zeros : OwnFault rowZeros
+  range : OwnFault rowRange
+  host-bits : OwnFault rowHostBits
+
+-- they are in the table, and none is a number that the list decides
+pub record Own (n : ℕ) : Type 0 where
+  pub not-taken : n ≡ rowTaken → ⊥
+  pub in-table : n < length rowNames
+  pub not-repeat : n ≡ rowRepeat → ⊥
+  pub not-no-room : n ≡ rowNoRoom → ⊥
+
+pub own : {n : ℕ} → OwnFault n → Own n
+own shape = record { not-taken = λ e. omega arith; in-table = lit< tt; not-repeat = λ e. omega arith; not-no-room = λ e. omega arith }
+own zeros = record { not-taken = λ e. omega arith; in-table = lit< tt; not-repeat = λ e. omega arith; not-no-room = λ e. omega arith }
+own range = record { not-taken = λ e. omega arith; in-table = lit< tt; not-repeat = λ e. omega arith; not-no-room = λ e. omega arith }
+own host-bits = record { not-taken = λ e. omega arith; in-table = lit< tt; not-repeat = λ e. omega arith; not-no-room = λ e. omega arith }
+
 -- what a reading says
 abbrev pub Sound : Reading → Type 0
 Sound (good k h) = (isPrefix k ≡ true) × (h ≡ 0 → ⊥) × (h ≤ 65535)
-Sound (bad n) = (1 ≤ n) × (n ≤ 3)
+Sound (bad n) = OwnFault n
 
 no-host-bits : (v : Values) → hasHostBits v ≡ false → hostBits (v .len) (addressOf v) ≡ 0
 unfolding hasHostBits
@@ -94,20 +116,25 @@ good-prefix v i e = parts-prefix (keyOf (addressOf v) (v .len)) (record {
     fits : addressOf v < addresses
     fits = omega (arith, i .first, i .second, i .third, i .fourth)
 
-judged-sound : (v : Values) → Sound (judgedValues v)
-unfolding judgedValues valueFault firstFault
-judged-sound v = go (outOfRange v) (hasHostBits v) refl refl
+-- the first of the three faults
+abbrev first-of : Bool → Bool → Bool → ℕ
+first-of a b c = cond a rowZeros (cond b rowRange (cond c rowHostBits rowTaken))
+
+judged-sound : (z : Bool) (v : Values) → Sound (judgedNumbers z v)
+unfolding judgedNumbers numbersFault firstFault
+judged-sound z v = go z (outOfRange v) (hasHostBits v) refl refl
   where
-    go : (b c : Bool) → outOfRange v ≡ b → hasHostBits v ≡ c
-        → Sound (cond (eqb (cond b 2 (cond c 3 0)) 0) (good (keyOf (addressOf v) (v .len)) (v .hop)) (bad (cond b 2 (cond c 3 0))))
-    go true c e f = (lit≤ tt, lit≤ tt)
-    go false true e f = (lit≤ tt, lit≤ tt)
-    go false false e f = (good-prefix v (in-range v e) f, in-range v e .hop-given, in-range v e .hop-fits)
+    go : (a b c : Bool) → outOfRange v ≡ b → hasHostBits v ≡ c
+        → Sound (cond (eqb (first-of a b c) rowTaken) (good (keyOf (addressOf v) (v .len)) (v .hop)) (bad (first-of a b c)))
+    go true b c e f = zeros
+    go false true c e f = range
+    go false false true e f = host-bits
+    go false false false e f = (good-prefix v (in-range v e) f, in-range v e .hop-given, in-range v e .hop-fits)
 
 pub read-row-sound : (bytes : List ℕ) → Sound (readRow bytes)
 unfolding readRow judged
 read-row-sound bytes = go (fieldsOf form bytes)
   where
     go : (o : Option (List (List ℕ))) → Sound (judged o)
-    go none = (lit≤ tt, lit≤ tt)
-    go (some ns) = judged-sound (valuesOf ns)
+    go none = shape
+    go (some ns) = judged-sound (hasZeroInFront ns) (valuesOf ns)

@@ -2,7 +2,7 @@
 -- Assumes nothing.
 use mathlib.Core.Path.{_≡_, refl, sym, ap, _∙_}
 use mathlib.Core.Logic.{_⊎_, inl, inr}
-use mathlib.Core.Bool.{Bool, true, false, cond, _&&_}
+use mathlib.Core.Bool.{Bool, true, false, cond, _&&_, _||_, or-false, or-assoc}
 use mathlib.Core.List.{List, [], _∷_, _++_, append-assoc}
 use mathlib.Core.Option.{Option, none, some}
 use Prim.Native.Nat.{ℕ, zero, suc, _+_, _≤_, _<_}
@@ -19,10 +19,10 @@ use Rattle.feed.specs.declared.parse.Digits.{Digits}
 use Rattle.feed.specs.declared.parse.NumberAt.{NumberAt}
 use Rattle.feed.specs.declared.parse.NumberAt.the-variants.{Read, NotOfForm}
 use Rattle.feed.specs.RowNumber.{rowShape}
-use Rattle.feed.specs.Reading.{bad, isDigit, digits, afterDigits, isNumber, begins, isEnd, before, Field, field}
-use Rattle.feed.specs.Reading.{form, fieldsOf, valueFrom, inPlaces, judgedValues, valuesOf, judged, readRow}
+use Rattle.feed.specs.Reading.{bad, isDigit, digits, afterDigits, isNumber, begins, isEnd, before, zeroInFront, Field, field}
+use Rattle.feed.specs.Reading.{form, fieldsOf, hasZeroInFront, valueFrom, inPlaces, judgedNumbers, valuesOf, judged, readRow}
 use Rattle.feed.specs.Inside.Fields.{digitsFrom, fieldFrom, readFrom}
-use Rattle.feed.proofs.Fields.{after-is, digits-within, digits-next, digits-value}
+use Rattle.feed.proofs.Fields.{after-is, digits-within, digits-next, digits-value, zeroSeen, zero-seen}
 
 -- five values and the hop, in their places
 abbrev filled : List ℕ → ℕ → Values
@@ -41,21 +41,21 @@ in-places v hop five =
     )
 
 -- The hop: 1 to 5 digits, after which the row ends.
-module _ (row : List ℕ) (at : ℕ) (h : at ≤ length row) (v : List ℕ) (d : Digits) (e : d ≡ digitsFrom row at 5) where
+module _ (row : List ℕ) (at : ℕ) (h : at ≤ length row) (zeros : Bool) (v : List ℕ) (d : Digits) (e : d ≡ digitsFrom row at 5) where
   abbrev ds : List ℕ
   ds = digits (drop at row)
 
   within : at + length ds ≤ length row
   within = omega (arith, digits-within (drop at row), length-drop at row)
 
-  not-a-hop : (isNumber 5 ds && isEnd (afterDigits (drop at row))) ≡ false → bad rowShape ≡ readFrom v (fieldsOf [] (drop at row))
+  not-a-hop : (isNumber 5 ds && isEnd (afterDigits (drop at row))) ≡ false → bad rowShape ≡ readFrom zeros v (fieldsOf [] (drop at row))
   unfolding readFrom fieldsOf
   not-a-hop f = rw f
 
-  pub hop-none : d .next ≡ at → bad rowShape ≡ readFrom v (fieldsOf [] (drop at row))
+  pub hop-none : d .next ≡ at → bad rowShape ≡ readFrom zeros v (fieldsOf [] (drop at row))
   hop-none q = not-a-hop (rw (lt-leb 1 (length ds) (omega (arith, digits-next row at 5 d e))))
 
-  pub hop-more : d .next < length row → bad rowShape ≡ readFrom v (fieldsOf [] (drop at row))
+  pub hop-more : d .next < length row → bad rowShape ≡ readFrom zeros v (fieldsOf [] (drop at row))
   hop-more q = not-a-hop (go (decided (isNumber 5 ds)))
     where
       go : (isNumber 5 ds ≡ true) ⊎ (isNumber 5 ds ≡ false) → (isNumber 5 ds && isEnd (afterDigits (drop at row))) ≡ false
@@ -70,11 +70,19 @@ module _ (row : List ℕ) (at : ℕ) (h : at ≤ length row) (v : List ℕ) (d :
       go (inr n) = rw n
 
   pub hop-last : (d .next ≡ at → ⊥) → length row ≤ d .next → length v ≡ 5
-      → judgedValues (filled v (d .value)) ≡ readFrom v (fieldsOf [] (drop at row))
-  unfolding readFrom fieldsOf
+      → judgedNumbers (zeros || zeroSeen row at (d .next)) (filled v (d .value)) ≡ readFrom zeros v (fieldsOf [] (drop at row))
+  unfolding readFrom fieldsOf hasZeroInFront
   hop-last moved end five =
-      rw (le-leb 1 (length ds) one, le-leb (length ds) 5 few, after-is (drop at row), drop-drop (length ds) at row, drop-all)
-      (sym (ap judgedValues (in-places v (valueFrom 0 ds) five ∙ ap (filled v) value)))
+      rw (
+        le-leb 1 (length ds) one,
+        le-leb (length ds) 5 few,
+        after-is (drop at row),
+        drop-drop (length ds) at row,
+        drop-all,
+        or-false,
+        zero-seen row at (d .next) one (omega (arith, few, digits-next row at 5 d e)),
+      )
+      (sym (ap (judgedNumbers (zeros || zeroInFront ds)) (in-places v (valueFrom 0 ds) five ∙ ap (filled v) value)))
     where
       few : length ds ≤ 5
       few = omega (arith, digits-next row at 5 d e, within)
@@ -115,9 +123,10 @@ module _ (row : List ℕ) (at m k : ℕ) (h : at ≤ length row) (fs : List Fiel
   begins-some [] e = never-both e refl
   begins-some (b ∷ bs) e = omega arith
 
-  pub record FieldRead (value next : ℕ) : Type 0 where
+  pub record FieldRead (value : ℕ) (z : Bool) (next : ℕ) : Type 0 where
     pub rest : fieldsOf (field m k ∷ fs) (drop at row) ≡ before (digits (drop at row)) (fieldsOf fs (drop next row))
     pub value-is : value ≡ valueFrom 0 (digits (drop at row))
+    pub zero-is : z ≡ zeroInFront (digits (drop at row))
     pub next-in : next ≤ length row
 
   pub not-of-form-none : fieldFrom row at m k ≡ NotOfForm → fieldsOf (field m k ∷ fs) (drop at row) ≡ none
@@ -126,37 +135,40 @@ module _ (row : List ℕ) (at m k : ℕ) (h : at ≤ length row) (fs : List Fiel
     where
       go : (test ≡ true) ⊎ (test ≡ false) → fieldsOf (field m k ∷ fs) (drop at row) ≡ none
       go (inl t) =
-          let z : _≡_ {A = NumberAt} (Read (valueFrom 0 front) (at + length front + 1)) NotOfForm = sym (cond-true _ _ t) ∙ e in
+          let z : _≡_ {A = NumberAt} (Read (valueFrom 0 front) (zeroInFront front) (at + length front + 1)) NotOfForm = sym (cond-true _ _ t) ∙ e in
           absurd (let o : _≡_ {A = ℕ} 0 1 = cc in omega arith)
       go (inr t) = fields-step m k fs (drop at row) ∙ cond-false _ _ t
 
-  pub read-steps : (value next : ℕ) → fieldFrom row at m k ≡ Read value next → FieldRead value next
+  pub read-steps : (value : ℕ) (z : Bool) (next : ℕ) → fieldFrom row at m k ≡ Read value z next → FieldRead value z next
   unfolding fieldFrom
-  read-steps value next e = go (decided test)
+  read-steps value z next e = go (decided test)
     where
-      go : (test ≡ true) ⊎ (test ≡ false) → FieldRead value next
+      go : (test ≡ true) ⊎ (test ≡ false) → FieldRead value z next
       go (inl t) =
-          let z : _≡_ {A = NumberAt} (Read (valueFrom 0 front) (at + length front + 1)) (Read value next) = sym (cond-true _ _ t) ∙ e in
+          let same : _≡_ {A = NumberAt} (Read (valueFrom 0 front) (zeroInFront front) (at + length front + 1)) (Read value z next) =
+          sym (cond-true _ _ t) ∙ e in
           let v : valueFrom 0 front ≡ value = cc in
+          let f : zeroInFront front ≡ z = cc in
           let n : at + length front + 1 ≡ next = cc in
           let there : drop 1 behind ≡ drop next row = rw (after-is (drop at row), drop-drop (length front), drop-drop 1, n) in
           let more = begins-some behind (and-right (isNumber m front) _ t) in
           record {
             rest = fields-step m k fs (drop at row) ∙ (cond-true _ _ t ∙ rw there);
             value-is = sym v;
+            zero-is = sym f;
             next-in = omega (arith, ap length (after-is (drop at row)), length-drop (length front) (drop at row), length-drop at row);
           }
       go (inr t) =
-          let z : _≡_ {A = NumberAt} NotOfForm (Read value next) = sym (cond-false _ _ t) ∙ e in
+          let never : _≡_ {A = NumberAt} NotOfForm (Read value z next) = sym (cond-false _ _ t) ∙ e in
           absurd (let o : _≡_ {A = ℕ} 0 1 = cc in omega arith)
 
--- Where the loop over the five numbers stands: the row says what the values so far and the rest of the row say.
-pub record Rowing (row v : List ℕ) (at i : ℕ) : Type 0 where
+-- Where the loop over the five numbers stands: the row says what the numbers so far and the rest of the row say.
+pub record Rowing (row v : List ℕ) (zeros : Bool) (at i : ℕ) : Type 0 where
   pub within : at ≤ length row
   pub five : length v ≡ 5
-  pub goes-on : readRow row ≡ readFrom (take i v) (fieldsOf (drop i form) (drop at row))
+  pub goes-on : readRow row ≡ readFrom zeros (take i v) (fieldsOf (drop i form) (drop at row))
 
-pub rowing-start : (row v : List ℕ) → length v ≡ 5 → Rowing row v 0 0
+pub rowing-start : (row v : List ℕ) → length v ≡ 5 → Rowing row v false 0 0
 unfolding readRow readFrom judged valuesOf
 rowing-start row v e = record {
   within = omega arith;
@@ -164,7 +176,7 @@ rowing-start row v e = record {
   goes-on = go (fieldsOf form row);
 }
   where
-    go : (o : Option (List (List ℕ))) → judged o ≡ readFrom [] o
+    go : (o : Option (List (List ℕ))) → judged o ≡ readFrom false [] o
     go none = refl
     go (some ns) = refl
 
@@ -183,12 +195,13 @@ form-at (suc (suc (suc zero))) l = refl
 form-at (suc (suc (suc (suc zero)))) l = refl
 form-at (suc (suc (suc (suc (suc i))))) l = absurd (omega arith)
 
-read-more : (vs : List ℕ) (ds : List ℕ) (o : Option (List (List ℕ))) → readFrom vs (before ds o) ≡ readFrom (vs ++ valueFrom 0 ds ∷ []) o
-unfolding readFrom
-read-more vs ds none = refl
-read-more vs ds (some ns) = rw append-assoc
+read-more : (z : Bool) (vs : List ℕ) (ds : List ℕ) (o : Option (List (List ℕ)))
+    → readFrom z vs (before ds o) ≡ readFrom (z || zeroInFront ds) (vs ++ valueFrom 0 ds ∷ []) o
+unfolding readFrom hasZeroInFront
+read-more z vs ds none = refl
+read-more z vs ds (some ns) = rw (append-assoc, or-assoc z (zeroInFront ds) (hasZeroInFront ns))
 
-module _ {row v : List ℕ} {at i : ℕ} (s : Rowing row v at i) (l : i < 5) where
+module _ {row v : List ℕ} {zeros : Bool} {at i : ℕ} (s : Rowing row v zeros at i) (l : i < 5) where
   abbrev most : ℕ
   most = getD mosts i 0
 
@@ -199,16 +212,16 @@ module _ {row v : List ℕ} {at i : ℕ} (s : Rowing row v at i) (l : i < 5) whe
   unfolding readFrom
   rowing-not-of-form e = sym (s .goes-on ∙ rw (form-at i l, not-of-form-none row at most mark (s .within) (drop (i + 1) form) e))
 
-  pub rowing-more : (value next : ℕ) → fieldFrom row at (getD mosts i 0) (getD marks i 0) ≡ Read value next
-      → Rowing row (set v i value) next (i + 1)
-  rowing-more value next e =
-      let t = read-steps row at most mark (s .within) (drop (i + 1) form) value next e in
+  pub rowing-more : (value : ℕ) (z : Bool) (next : ℕ) → fieldFrom row at (getD mosts i 0) (getD marks i 0) ≡ Read value z next
+      → Rowing row (set v i value) (zeros || z) next (i + 1)
+  rowing-more value z next e =
+      let t = read-steps row at most mark (s .within) (drop (i + 1) form) value z next e in
       record {
         within = t .next-in;
         five = length-set v i value ∙ s .five;
         goes-on =
             s .goes-on
-            ∙ rw (form-at i l, t .rest, read-more, ← t .value-is, add-one, take-suc-set v i value (omega (arith, s .five)));
+            ∙ rw (form-at i l, t .rest, read-more, ← t .value-is, ← t .zero-is, add-one, take-suc-set v i value (omega (arith, s .five)));
       }
 
 -- the five numbers have at most 5 digits, and no mark is a digit
@@ -228,6 +241,7 @@ mark-no-digit (suc (suc (suc zero))) l = refl
 mark-no-digit (suc (suc (suc (suc zero)))) l = refl
 mark-no-digit (suc (suc (suc (suc (suc i))))) l = absurd (omega arith)
 
-pub rowing-end : {row v : List ℕ} {at i : ℕ} → Rowing row v at i → i ≡ 5 → readFrom v (fieldsOf [] (drop at row)) ≡ readRow row
-rowing-end {row} {v} {at} {i} s e =
+pub rowing-end : {row v : List ℕ} {zeros : Bool} {at i : ℕ} → Rowing row v zeros at i → i ≡ 5
+    → readFrom zeros v (fieldsOf [] (drop at row)) ≡ readRow row
+rowing-end {row} {v} {zeros} {at} {i} s e =
     sym (s .goes-on ∙ rw (e, take-all 5 v (omega (arith, s .five))))

@@ -14,12 +14,12 @@ use Rattle.feed.specs.declared.Imported.{Imported}
 use Rattle.feed.specs.declared.ImportEnd.{ImportEnd}
 use Rattle.feed.specs.declared.ImportEnd.the-variants.{Done, ReportShort}
 use Rattle.feed.specs.declared.RowRead.{RowRead}
-use Rattle.feed.specs.declared.RowRead.the-variants.{Good, Shape, Range, HostBits}
+use Rattle.feed.specs.declared.RowRead.the-variants.{Good, Shape, Zeros, Range, HostBits}
 use Rattle.feed.specs.declared.NextRow.{NextRow}
 use Rattle.feed.specs.declared.NextRow.the-variants.{Row, End}
 use Rattle.feed.specs.declared.RowPulled.{RowPulled}
 use Rattle.feed.specs.declared.Reader.{Reader}
-use Rattle.feed.specs.RowNumber.{rowShape, rowRange}
+use Rattle.feed.specs.RowNumber.{rowShape, rowZeros, rowRange}
 use Rattle.feed.specs.Reading.{Reading, good, bad, readRow, readingOf}
 use Rattle.feed.specs.Import.{ImportLent, import, endNumber, importGave, TallyGave}
 use Rattle.feed.specs.Pull.{pull, nextReading, pullGave, PulledBy}
@@ -62,12 +62,13 @@ tally-settled feed l tally {r} {r′} g g′ = (
 -- the answer that a reading came from
 answerOf : Reading → RowRead
 answerOf (good k h) = Good k h
-answerOf (bad n) = cond (eqb n rowShape) Shape (cond (eqb n rowRange) Range HostBits)
+answerOf (bad n) = cond (eqb n rowShape) Shape (cond (eqb n rowZeros) Zeros (cond (eqb n rowRange) Range HostBits))
 
 answer-of-reading : (r : RowRead) → answerOf (readingOf r) ≡ r
 unfolding answerOf
 answer-of-reading (Good k h) = refl
 answer-of-reading Shape = refl
+answer-of-reading Zeros = refl
 answer-of-reading Range = refl
 answer-of-reading HostBits = refl
 

@@ -1,5 +1,6 @@
--- Rules 3.3 to 3.7: what one row says by itself. Its form is six numbers with five marks between them (3.3), zeros in front change
--- nothing (3.4), and the whole form is judged before any value (3.6). Then come numbers 1, 2 and 3, in this order (3.7).
+-- Rules 3.3 to 3.7: what one row says by itself. Its form is six numbers with five marks between them (3.3), and the whole form is judged
+-- before anything else (3.6). A number of more than one digit may not begin with 0 (3.4). Then come the values. So a row gets the first of
+-- the numbers 1, 6, 2 and 3 that fits it (3.7).
 -- Assumes nothing.
 use mathlib.Core.Bool.{Bool, true, false, not, cond, _&&_, _||_}
 use mathlib.Core.List.{List, [], _∷_, map}
@@ -11,9 +12,9 @@ use Rattle.cidr.specs.Prefix.{dotted, keyOf, hostBits}
 use Rattle.ground.specs.Numbers.{check, firstFault}
 use Rattle.feed.specs.declared.parse.Values.{Values}
 use Rattle.feed.specs.declared.RowRead.{RowRead}
-use Rattle.feed.specs.declared.RowRead.the-variants.{Good, Shape, Range, HostBits}
+use Rattle.feed.specs.declared.RowRead.the-variants.{Good, Shape, Zeros, Range, HostBits}
 use Rattle.feed.specs.Rows.{dot, slash, space, digit0, digit9}
-use Rattle.feed.specs.RowNumber.{rowTaken, rowShape, rowRange, rowHostBits}
+use Rattle.feed.specs.RowNumber.{rowTaken, rowShape, rowZeros, rowRange, rowHostBits}
 
 -- a digit is a byte from '0' to '9'
 abbrev pub isDigit : ℕ → Bool
@@ -76,6 +77,15 @@ fieldsOf (f ∷ fs) bs =
       | false ↦ none
     ]
 
+-- Rule 3.4: the digits have a zero in front: there is more than one, and the first is '0'.
+abbrev pub zeroInFront : List ℕ → Bool
+zeroInFront ds = ltb 1 (length ds) && begins digit0 ds
+
+-- Rule 3.7, number 6: one of the numbers has a zero in front.
+unfoldable pub hasZeroInFront : List (List ℕ) → Bool
+hasZeroInFront [] = false
+hasZeroInFront (ds ∷ more) = zeroInFront ds || hasZeroInFront more
+
 -- the value of digits, read as decimal from the first on
 unfoldable pub valueFrom : ℕ → List ℕ → ℕ
 valueFrom v [] = v
@@ -100,23 +110,25 @@ outOfRange v =
 unfoldable pub hasHostBits : Values → Bool
 hasHostBits v = not (eqb (hostBits (v .len) (addressOf v)) 0)
 
--- what a row says by itself: a prefix, as its key, with a hop, or its number 1, 2 or 3
+-- what a row says by itself: a prefix, as its key, with a hop, or its number 1, 6, 2 or 3
 pub data Reading : Type 0 where
   good : ℕ → ℕ → Reading
   bad : ℕ → Reading
 
--- the number of the first fault of a row's values; 0, as of a row that is taken, where there is none
-unfoldable pub valueFault : Values → ℕ
-valueFault v = firstFault (check (outOfRange v) rowRange ∷ check (hasHostBits v) rowHostBits ∷ [])
+-- the number of the first fault of a row's six numbers, by whether one of them has a zero in front and by their values; 0, as of a row that
+-- is taken, where there is none
+unfoldable pub numbersFault : Bool → Values → ℕ
+numbersFault zeros v = firstFault (check zeros rowZeros ∷ check (outOfRange v) rowRange ∷ check (hasHostBits v) rowHostBits ∷ [])
 
-unfoldable pub judgedValues : Values → Reading
-judgedValues v = cond (eqb (valueFault v) rowTaken) (good (keyOf (addressOf v) (v .len)) (v .hop)) (bad (valueFault v))
+unfoldable pub judgedNumbers : Bool → Values → Reading
+judgedNumbers zeros v =
+    cond (eqb (numbersFault zeros v) rowTaken) (good (keyOf (addressOf v) (v .len)) (v .hop)) (bad (numbersFault zeros v))
 
 unfoldable pub judged : Option (List (List ℕ)) → Reading
 judged none = bad rowShape
-judged (some ns) = judgedValues (valuesOf ns)
+judged (some ns) = judgedNumbers (hasZeroInFront ns) (valuesOf ns)
 
--- the reading of a row: the whole row's shape first, then its values
+-- the reading of a row: the whole row's shape first, then zeros in front, then its values
 unfoldable pub readRow : List ℕ → Reading
 readRow bytes = judged (fieldsOf form bytes)
 
@@ -124,5 +136,6 @@ readRow bytes = judged (fieldsOf form bytes)
 abbrev pub readingOf : RowRead → Reading
 readingOf (Good k h) = good k h
 readingOf Shape = bad rowShape
+readingOf Zeros = bad rowZeros
 readingOf Range = bad rowRange
 readingOf HostBits = bad rowHostBits

@@ -28,6 +28,9 @@ rowRepeat = 4
 abbrev pub rowNoRoom : ℕ
 rowNoRoom = 5
 
+abbrev pub rowZeros : ℕ
+rowZeros = 6
+
 -- a row number and the name that the program writes for it
 pub record NamedRow : Type 0 where
   pub number : ℕ
@@ -40,6 +43,7 @@ named n s = record { number = n; name = s }
 abbrev pub reasons : List NamedRow
 reasons =
     named rowShape "shape"
+    ∷ named rowZeros "zeros"
     ∷ named rowRange "range"
     ∷ named rowHostBits "hostbits"
     ∷ named rowRepeat "repeat"

@@ -1,11 +1,14 @@
-// The parts of a row: digits, one number with the byte after it, and what the values of six numbers say. `read_row` puts them together.
+// The parts of a row: digits, one number with the byte after it, and what six numbers say, by zeros in front and by their values.
+// `read_row` puts them together.
 ghost use mathlib.Core.Path.{_≡_};
-ghost use mathlib.Core.Bool.{false, not};
+ghost use mathlib.Core.Bool.{false, not, _&&_, _||_};
 ghost use mathlib.Core.List.{[]};
-ghost use Prim.Native.Nat.{_-_, _≤_};
-ghost use lib.ListN.{length, drop};
+ghost use Prim.Native.Nat.{_-_, _≤_, _<_};
+ghost use lib.ListN.{length, drop, getD};
+ghost use lib.Dec.{ltb, eqb};
 ghost use Rattle.cidr.specs.Prefix.{keyOf};
-ghost use Rattle.feed.specs.Reading.{isDigit, addressOf, outOfRange, judgedValues, fieldsOf, readingOf};
+ghost use Rattle.feed.specs.Rows.{digit0};
+ghost use Rattle.feed.specs.Reading.{isDigit, addressOf, outOfRange, judgedNumbers, fieldsOf, readingOf};
 ghost use Rattle.feed.specs.Inside.Fields.{digitsFrom, fieldFrom, readFrom};
 use crate::RowRead;
 
@@ -27,8 +30,8 @@ pub struct Digits {
 
 // What stands at a place of a row: a number of the form with its mark, or something else.
 pub enum NumberAt {
-    // The number's value, and the place after its mark.
-    Read { value: u32, next: usize },
+    // The number's value, whether it has a zero in front, and the place after its mark.
+    Read { value: u32, zero: bool, next: usize },
     NotOfForm,
 }
 
@@ -73,6 +76,24 @@ fn digits_from(row: &[u8], at: usize, most: usize) -> Digits
     Digits { value, next }
 }
 
+// Whether the digits from one place to another have a zero in front: there is more than one, and the first is '0'.
+fn zero_in_front(row: &[u8], at: usize, end: usize) -> bool
+    requires { ⌜ (at < end) × (end ≤ length (now row)) ⌝ }
+    ensures { λ r. ⌜ r ≡ (ltb 1 (end - at) && eqb (getD (now (row .entry)) at 0) digit0) ⌝ }
+{
+    if end - at <= 1 {
+        return false;
+    }
+    row[at] == 48
+}
+
+// Either of two facts.
+pub(crate) fn either(x: bool, y: bool) -> bool
+    ensures { λ r. ⌜ r ≡ (x || y) ⌝ }
+{
+    if x { true } else { y }
+}
+
 // One number of the form from a place on: 1 to `most` digits and then the mark.
 pub(crate) fn field_from(row: &[u8], at: usize, most: usize, mark: u8) -> NumberAt
     requires { ⌜ (at ≤ length (now row)) × (most ≤ 5) × (isDigit mark ≡ false) ⌝ }
@@ -89,6 +110,7 @@ pub(crate) fn field_from(row: &[u8], at: usize, most: usize, mark: u8) -> Number
     if row[next] == mark {
         return NumberAt::Read {
             value: d.value,
+            zero: zero_in_front(row, at, next),
             next: next + 1,
         };
     }
@@ -132,10 +154,13 @@ fn key_of(v: Values) -> u64
     (((a * 256 + b) * 256 + c) * 256 + d) * 64 + len
 }
 
-// What a row of the form says: range first, then host bits.
-fn judge(v: Values) -> RowRead
-    ensures { λ r. ⌜ readingOf r ≡ judgedValues v ⌝ }
+// What a row of the form says: zeros in front first, then range, then host bits.
+fn judge(zeros: bool, v: Values) -> RowRead
+    ensures { λ r. ⌜ readingOf r ≡ judgedNumbers zeros v ⌝ }
 {
+    if zeros {
+        return RowRead::Zeros;
+    }
     if !in_range(v) {
         return RowRead::Range;
     }
@@ -151,9 +176,9 @@ fn judge(v: Values) -> RowRead
 }
 
 // What a row says whose first five numbers are read: the hop of 1 to 5 digits ends it.
-pub(crate) fn read_hop(row: &[u8], at: usize, v: [u32; 5]) -> RowRead
+pub(crate) fn read_hop(row: &[u8], at: usize, v: [u32; 5], zeros: bool) -> RowRead
     requires { ⌜ (at ≤ length (now row)) × (length v ≡ 5) ⌝ }
-    ensures { λ r. ⌜ readingOf r ≡ readFrom v (fieldsOf [] (drop at (now (row .entry)))) ⌝ }
+    ensures { λ r. ⌜ readingOf r ≡ readFrom zeros v (fieldsOf [] (drop at (now (row .entry)))) ⌝ }
 {
     let hop = digits_from(row, at, 5);
     let end = hop.next;
@@ -164,12 +189,14 @@ pub(crate) fn read_hop(row: &[u8], at: usize, v: [u32; 5]) -> RowRead
         return RowRead::Shape;
     }
     let value = hop.value;
-    judge(Values {
+    let zero = zero_in_front(row, at, end);
+    let six = Values {
         a: v[0],
         b: v[1],
         c: v[2],
         d: v[3],
         len: v[4],
         hop: value,
-    })
+    };
+    judge(either(zeros, zero), six)
 }

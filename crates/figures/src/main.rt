@@ -51,6 +51,7 @@ fn counts(number: u64, c: Counts) {
     item(c.rows as u64);
     item(c.of[feed::TAKEN as usize] as u64);
     item(c.of[feed::SHAPE as usize] as u64);
+    item(c.of[feed::ZEROS as usize] as u64);
     item(c.of[feed::RANGE as usize] as u64);
     item(c.of[feed::HOST_BITS as usize] as u64);
     item(c.of[feed::REPEAT as usize] as u64);
@@ -237,10 +238,17 @@ fn import_values() {
     );
     import(
         b"leading zeros",
-        b"010.000.00.0/08 00007\n10.0.0.0/8 9\n001.002.003.000/24 01\n",
+        b"010.000.00.0/08 00007\n10.0.0.0/8 9\n001.002.003.000/24 01\n10.0.0.0/8 00\n0.0.0.0/0 100\n",
         3,
         3,
-        4,
+        6,
+    );
+    import(
+        b"zeros after shape and before range",
+        b"010.0.0.256/8 7\n010.0.0.0/8 7x\n10.0.0.0/033 7\n10.0.0.1/08 0\n",
+        2,
+        2,
+        5,
     );
 }
 

@@ -134,10 +134,17 @@ corners =
     ∷ figure (numbered (bytes "10.0.0.0/8 7")) (0 ∷ [])
     ∷ figure (numbered (bytes "10.0.0.0/8 7\n")) (0 ∷ [])
     ∷ figure (numbered (bytes "10.0.0.0/8 7\n\n")) (0 ∷ 1 ∷ [])
-    -- Rules 3.3, 3.4 and 3.7: octets of 999 and 1000, hops of 0, 65535, 70000 and six digits, lengths of 33 and 032.
+    -- Rules 3.3 and 3.7: octets of 999 and 1000, hops of 0, 65535, 70000 and six digits, lengths of 33 and 032.
     ∷ figure (numbered (bytes "10.0.0.999/8 7\n10.0.0.1000/8 7\n")) (2 ∷ 1 ∷ [])
     ∷ figure (numbered (bytes "10.0.0.0/8 0\n10.0.0.0/8 65535\n11.0.0.0/8 70000\n12.0.0.0/8 000007\n")) (2 ∷ 0 ∷ 2 ∷ 1 ∷ [])
-    ∷ figure (numbered (bytes "10.0.0.0/33 7\n10.0.0.0/032 7\n010.000.0.0/08 00007\n")) (2 ∷ 1 ∷ 0 ∷ [])
+    ∷ figure (numbered (bytes "10.0.0.0/33 7\n10.0.0.0/032 7\n")) (2 ∷ 1 ∷ [])
+    -- Rules 3.4 and 3.7: a zero in front of an octet, the length and the hop is 6. It comes after shape and before range and host bits.
+    -- A lone 0 has no zero in front: hop 0 is 2, and as an octet or length it is good. A zero may stand behind another digit.
+    ∷ figure (numbered (bytes "010.0.0.0/8 7\n10.00.0.0/8 7\n10.0.000.0/8 7\n10.0.0.01/8 7\n")) (6 ∷ 6 ∷ 6 ∷ 6 ∷ [])
+    ∷ figure (numbered (bytes "10.0.0.0/08 7\n10.0.0.0/8 07\n10.0.0.0/8 00\n10.0.0.0/8 0\n")) (6 ∷ 6 ∷ 6 ∷ 2 ∷ [])
+    ∷ figure (numbered (bytes "0.0.0.0/00 7\n0.0.0.0/0 00000\n")) (6 ∷ 6 ∷ [])
+    ∷ figure (numbered (bytes "010.0.0.256/8 7\n010.0.0.0/8 7x\n10.0.0.1/08 70000\n")) (6 ∷ 1 ∷ 6 ∷ [])
+    ∷ figure (numbered (bytes "0.0.0.0/0 7\n100.0.0.0/10 100\n0.0.0.1/8 7\n")) (0 ∷ 0 ∷ 3 ∷ [])
     -- Rules 3.6 and 3.7: the whole row's form comes before any value, and range before host bits.
     ∷ figure (numbered (bytes "999.2.3.4/5 6x\n10.0.0.1/8 70000\n10.0.0.1/8 7\n")) (1 ∷ 2 ∷ 3 ∷ [])
     -- Rule 3.5: a zero byte, 255, CR, tab and a space behind a good row, and a second space in it.
@@ -167,6 +174,7 @@ corners =
     ∷ one (pull (bytes "10.0.0.0/8 7\nx") 20 .next) 20
     ∷ figure (pulled (pull (bytes "110.0.0.0/8 7\nx") 1 .reading)) (0 ∷ prefix 10 0 0 0 8 ∷ 7 ∷ [])
     ∷ figure (pulled (pull (bytes "10.0.0.1/8 7\nx") 0 .reading)) (3 ∷ 0 ∷ 0 ∷ [])
+    ∷ figure (pulled (pull (bytes "010.0.0.256/8 7\nx") 0 .reading)) (6 ∷ 0 ∷ 0 ∷ [])
     ∷ figure (pulled (pull (bytes "\n") 1 .reading)) []
     -- Rules 4.12 to 4.14: a feed of no bytes, a row at the end without LF, and the pulls of a whole feed.
     ∷ figure (pulled (pull [] 0 .reading)) []
@@ -212,15 +220,17 @@ corners =
     ∷ figure (hopsOf (withdrawn (prefix 128 0 0 0 1) ends)) (9 ∷ 7 ∷ [])
     -- Rules 4.5 and 4.7: the counts of the five rows, with a report long enough and one too short.
     -- Rule 4.9: a lent tally is set, and stays on 12.
-    ∷ figure (counts (import fiveRows (lent (0 ∷ []) (0 ∷ []) (9 ∷ 9 ∷ 9 ∷ 9 ∷ 9 ∷ [])) .counts)) (5 ∷ 1 ∷ 1 ∷ 1 ∷ 1 ∷ 1 ∷ 0 ∷ [])
-    ∷ figure (counts (import fiveRows (lent (0 ∷ []) (0 ∷ []) (9 ∷ [])) .counts)) (0 ∷ 0 ∷ 0 ∷ 0 ∷ 0 ∷ 0 ∷ 0 ∷ [])
-    ∷ figure (counts (importTally fiveRows (lent [] [] (9 ∷ 9 ∷ 9 ∷ 9 ∷ 9 ∷ [])) (countsOf (1 ∷ 1 ∷ [])))) (5 ∷ 0 ∷ 1 ∷ 1 ∷ 1 ∷ 0 ∷ 2 ∷ [])
+    ∷ figure (counts (import fiveRows (lent (0 ∷ []) (0 ∷ []) (9 ∷ 9 ∷ 9 ∷ 9 ∷ 9 ∷ [])) .counts)) (5 ∷ 1 ∷ 1 ∷ 1 ∷ 1 ∷ 1 ∷ 0 ∷ 0 ∷ [])
+    ∷ figure (counts (import fiveRows (lent (0 ∷ []) (0 ∷ []) (9 ∷ [])) .counts)) (0 ∷ 0 ∷ 0 ∷ 0 ∷ 0 ∷ 0 ∷ 0 ∷ 0 ∷ [])
+    ∷ figure (counts (importTally fiveRows (lent [] [] (9 ∷ 9 ∷ 9 ∷ 9 ∷ 9 ∷ [])) (countsOf (1 ∷ 1 ∷ [])))) (5 ∷ 0 ∷ 1 ∷ 1 ∷ 1 ∷ 0 ∷ 2 ∷ 0 ∷ [])
     ∷ one (importTally fiveRows (lent [] [] (9 ∷ [])) (countsOf (7 ∷ [])) .rows) 1
-    ∷ figure (counts (importTally [] (lent [] [] []) (countsOf (0 ∷ 1 ∷ [])))) (0 ∷ 0 ∷ 0 ∷ 0 ∷ 0 ∷ 0 ∷ 0 ∷ [])
-    ∷ figure (counts (importTally (bytes "0.0.0.0/0 7") (lent [] [] (9 ∷ [])) (countsOf (0 ∷ 1 ∷ [])))) (1 ∷ 0 ∷ 0 ∷ 0 ∷ 0 ∷ 0 ∷ 1 ∷ [])
+    ∷ figure (counts (importTally [] (lent [] [] []) (countsOf (0 ∷ 1 ∷ [])))) (0 ∷ 0 ∷ 0 ∷ 0 ∷ 0 ∷ 0 ∷ 0 ∷ 0 ∷ [])
+    ∷ figure (counts (importTally (bytes "0.0.0.0/0 7") (lent [] [] (9 ∷ [])) (countsOf (0 ∷ 1 ∷ [])))) (1 ∷ 0 ∷ 0 ∷ 0 ∷ 0 ∷ 0 ∷ 1 ∷ 0 ∷ [])
+    ∷ figure (counts (import (bytes "00.0.0.0/0 7\n0.0.0.0/0 7") (lent (0 ∷ []) (0 ∷ []) (9 ∷ 9 ∷ [])) .counts))
+    (2 ∷ 1 ∷ 0 ∷ 0 ∷ 0 ∷ 0 ∷ 0 ∷ 1 ∷ [])
     -- Rules 13.3 and 13.4: the lines that the program writes for them.
     ∷ figure (countLines (countsOf (rowNumbers 1024 fiveRows)))
-    (bytes "rows 5\ntaken 1\nshape 1\nrange 1\nhostbits 1\nrepeat 1\nnoroom 0\n")
+    (bytes "rows 5\ntaken 1\nshape 1\nzeros 0\nrange 1\nhostbits 1\nrepeat 1\nnoroom 0\n")
     ∷ figure (runLines (0 ∷ dotted 10 0 0 0 ∷ dotted 11 0 0 0 ∷ []) (0 ∷ 7 ∷ 0 ∷ []))
     (bytes "0.0.0.0 0\n10.0.0.0 7\n11.0.0.0 0\n")
     -- Rule 10.8: a smaller count leaves zeros up to the old one, and a larger one keeps what is beyond it.

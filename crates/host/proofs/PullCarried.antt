@@ -21,6 +21,9 @@ module _ (r : RowRead) {next : ℕ} where
   pub shape-carried : r ≡ R.Shape → rowForC (some (bad 1)) next ≡ rowForC (some (readingOf r)) next
   shape-carried e = rw e
 
+  pub zeros-carried : r ≡ R.Zeros → rowForC (some (bad 6)) next ≡ rowForC (some (readingOf r)) next
+  zeros-carried e = rw e
+
   pub range-carried : r ≡ R.Range → rowForC (some (bad 2)) next ≡ rowForC (some (readingOf r)) next
   range-carried e = rw e
 

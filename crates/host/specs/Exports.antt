@@ -21,11 +21,11 @@ use Rattle.host.specs.declared.WhelkPacked.{WhelkPacked}
 use Rattle.host.specs.declared.edits.WhelkEdit.{WhelkEdit}
 use Rattle.host.specs.declared.rows.WhelkRow.{WhelkRow}
 
--- Rule 4.5: the seven counts that C gets, all rows and then one for each row number.
+-- Rule 4.5: the eight counts that C gets, all rows and then one for each row number.
 abbrev pub countsIn : WhelkCounts → Counts
 countsIn w = record {
   rows = w .rows;
-  of = w .taken ∷ w .shape ∷ w .range ∷ w .hostbits ∷ w .repeat ∷ w .noroom ∷ [];
+  of = w .taken ∷ w .shape ∷ w .range ∷ w .hostbits ∷ w .repeat ∷ w .noroom ∷ w .zeros ∷ [];
 }
 
 -- Rule 7.10: what C gets from an import and the three slices at exit, as an import's outcome.

@@ -29,7 +29,7 @@ use segment::Packing;
 use split::Parted;
 use text::Written;
 
-// Rule 7.10: what an import returns to C, its number and the seven counts.
+// Rule 7.10: what an import returns to C, its number and the eight counts.
 #[repr(C)]
 pub struct WhelkCounts {
     pub number: usize,
@@ -40,6 +40,7 @@ pub struct WhelkCounts {
     pub hostbits: usize,
     pub repeat: usize,
     pub noroom: usize,
+    pub zeros: usize,
 }
 
 // The number of an import's end.
@@ -76,6 +77,7 @@ pub extern "C" fn whelk_import(
         hostbits: c.of[feed::HOST_BITS as usize],
         repeat: c.of[feed::REPEAT as usize],
         noroom: c.of[feed::NO_ROOM_LEFT as usize],
+        zeros: c.of[feed::ZEROS as usize],
     }
 }
 

@@ -44,6 +44,7 @@ fn row_for_c(r: RowRead, next: usize) -> WhelkRow
             next,
         },
         RowRead::Shape => bad_row(feed::SHAPE, next),
+        RowRead::Zeros => bad_row(feed::ZEROS, next),
         RowRead::Range => bad_row(feed::RANGE, next),
         RowRead::HostBits => bad_row(feed::HOST_BITS, next),
     }

@@ -1,19 +1,21 @@
--- A number's decimal digits read back: they are digits, they end where no digit follows, and their value is the number. Each fact goes by
--- the number's digits (`by-digits`): it holds of one digit, and with the digits of a tenth for those and one more.
+-- A number's decimal digits read back: they are digits with no zero in front, they end where no digit follows, and their value is the number.
+-- Each fact goes by the number's digits (`by-digits`): it holds of one digit, and with the digits of a tenth for those and one more.
 -- Assumes nothing.
 use mathlib.Core.Path.{_≡_, refl, _∙_}
 use mathlib.Core.Logic.{⊎-elim}
-use mathlib.Core.Bool.{Bool, true, not}
+use mathlib.Core.Bool.{Bool, true, false, not, and-false}
 use mathlib.Core.List.{List, [], _∷_, _++_, append-nil}
 use Prim.Native.Nat.{ℕ, zero, suc, _+_, _-_, _*_, _/_, _%_, _≤_, _<_}
 use native.Mathlib.Nat.{le-refl}
 use native.Mathlib.Omega.{arith}
+use lib.ListN.{length}
 use lib.Dec.{ltb}
-use borrow.Author.Tests.{ltb-true, ltb-false, le-leb}
+use borrow.Author.Tests.{ltb-true, ltb-false, le-leb, ne-eqb}
 use Rattle.ground.proofs.Truth.{decided, and-both, not-true}
-use Rattle.feed.specs.Reading.{isDigit, digits, afterDigits, valueFrom}
+use Rattle.feed.specs.Rows.{digit0}
+use Rattle.feed.specs.Reading.{isDigit, digits, afterDigits, begins, zeroInFront, valueFrom}
 use Rattle.text.specs.Text.{decimal}
-use Rattle.text.proofs.Decimal.{decimal-small, decimal-step}
+use Rattle.text.proofs.Decimal.{decimal-small, decimal-step, one-digit}
 
 -- what holds of one digit, and of one digit more behind those of a tenth, holds of every number's digits
 module _ (P : ℕ → List ℕ → Type 0) (one : (n : ℕ) → n < 10 → P n ((48 + n) ∷ []))
@@ -83,3 +85,19 @@ pub decimal-value : (n : ℕ) → valueFrom 0 (decimal n) ≡ n
 unfolding valueFrom
 decimal-value = by-digits (λ n ds. valueFrom 0 ds ≡ n) (λ n l. omega arith)
     (λ n l rec. value-snoc 0 (48 + n % 10) (decimal (n / 10)) ∙ omega arith)
+
+-- There is no zero in front: of more digits than one, the first is that of a tenth, which isn't 0.
+begins-then : (mark : ℕ) (ds rest : List ℕ) → 1 ≤ length ds → begins mark ds ≡ false → begins mark (ds ++ rest) ≡ false
+begins-then mark [] rest l e = absurd (omega arith)
+begins-then mark (d ∷ ds) rest l e = e
+
+first-not-zero : (n : ℕ) → 1 ≤ n → begins digit0 (decimal n) ≡ false
+first-not-zero = by-digits (λ n ds. 1 ≤ n → begins digit0 ds ≡ false)
+    (λ n l some. ne-eqb (48 + n) digit0 (λ (e : 48 + n ≡ 48). absurd (omega arith)))
+    (λ n l rec some. begins-then digit0 (decimal (n / 10)) _ (one-digit (n / 10)) (rec (omega arith)))
+
+pub decimal-no-zero : (n : ℕ) → zeroInFront (decimal n) ≡ false
+decimal-no-zero n = ⊎-elim
+    (λ e. rw (decimal-small n (ltb-true n 10 e)))
+    (λ e. rw (first-not-zero n (omega (arith, ltb-false n 10 e))) (and-false (ltb 1 (length (decimal n)))))
+    (decided (ltb n 10))

@@ -1,5 +1,5 @@
--- A row's line, its text without the LF, reads back: its six numbers have the digits that the form allows and their marks after them, and
--- their values are the row's octets, length and hop, so the row is good with its own key and hop.
+-- A row's line, its text without the LF, reads back: its six numbers have the digits that the form allows, no zero in front and their marks
+-- after them, and their values are the row's octets, length and hop, so the row is good with its own key and hop.
 -- Assumes nothing.
 use mathlib.Core.Path.{_≡_, refl, ap, _∙_}
 use mathlib.Core.Bool.{true, false, not, _&&_}
@@ -16,10 +16,10 @@ use Rattle.cidr.proofs.Prefix.{Prefix, prefix-parts, key-split}
 use Rattle.routes.specs.Row.{Row}
 use Rattle.feed.specs.Rows.{LF, dot, slash, space}
 use Rattle.feed.specs.Reading.{isDigit, digits, afterDigits, isNumber, begins, Field, field, form, before, fieldsOf}
-use Rattle.feed.specs.Reading.{valueFrom, inPlaces, valuesOf, outOfRange, hasHostBits, good, valueFault, judgedValues, judged, readRow}
+use Rattle.feed.specs.Reading.{hasZeroInFront, valueFrom, inPlaces, valuesOf, outOfRange, hasHostBits, good, numbersFault, judgedNumbers, judged, readRow}
 use Rattle.text.specs.Text.{decimal, dottedText, rowText}
 use Rattle.text.proofs.Decimal.{one-digit, digits-at-most}
-use Rattle.text.proofs.DecimalReads.{decimal-read, decimal-after, decimal-value}
+use Rattle.text.proofs.DecimalReads.{decimal-read, decimal-after, decimal-value, decimal-no-zero}
 
 -- a number with the mark after it
 abbrev marked : ℕ → ℕ → List ℕ → List ℕ
@@ -73,6 +73,12 @@ values-back : (ns : List ℕ) → map (valueFrom 0) (map decimal ns) ≡ ns
 values-back [] = refl
 values-back (n ∷ ns) = rw (decimal-value n, values-back ns)
 
+-- none of them has a zero in front
+no-zeros : (ns : List ℕ) → hasZeroInFront (map decimal ns) ≡ false
+unfolding hasZeroInFront
+no-zeros [] = refl
+no-zeros (n ∷ ns) = rw (decimal-no-zero n) (no-zeros ns)
+
 address-is : (net : ℕ) → dotted (net / 16777216) (net / 65536 % 256) (net / 256 % 256) (net % 256) ≡ net
 address-is net = omega arith
 
@@ -114,10 +120,10 @@ module _ (r : Row) (e : isPrefix (r .key) ≡ true) (given : r .hop ≡ 0 → �
   unfolding hasHostBits inPlaces
   no-host-bits = rw (address-is (network (r .key)), eq-eqb _ 0 (parts .aligned))
 
-  values-good : judgedValues (inPlaces (numbersIn r)) ≡ good (r .key) (r .hop)
-  unfolding judgedValues valueFault firstFault inPlaces
+  values-good : judgedNumbers false (inPlaces (numbersIn r)) ≡ good (r .key) (r .hop)
+  unfolding judgedNumbers numbersFault firstFault inPlaces
   values-good = rw (in-range, no-host-bits, address-is (network (r .key)), key-split (r .key))
 
   pub line-read : readRow (line r) ≡ good (r .key) (r .hop)
   unfolding readRow judged valuesOf
-  line-read = ap judged fields-are ∙ rw (values-back (numbersIn r)) values-good
+  line-read = ap judged fields-are ∙ rw (no-zeros (numbersIn r), values-back (numbersIn r)) values-good

@@ -24,8 +24,8 @@ const ROWS: usize = 1024;
 
 const RUNS: usize = 2 * ROWS + 1;
 
-// The most bytes that the program writes for a feed: 88 for the seven counts, and 22 for each of 2,049 runs.
-pub const PROGRAM_TEXT: usize = 45166;
+// The most bytes that the program writes for a feed: 100 for the eight counts, and 22 for each of 2,049 runs.
+pub const PROGRAM_TEXT: usize = 45178;
 
 // Some bytes as they are, at a place.
 fn text(out: &mut [u8], at: usize, bytes: &[u8]) -> usize
@@ -65,7 +65,8 @@ fn refused(out: &mut [u8], at: usize, c: Counts) -> usize
     requires { ⌜ Fits at (nameLines reasons c) (now out) ⌝ }
     ensures { λ r. ⌜ Put at (nameLines reasons c) r (now (out .entry)) (now (out .exit)) ⌝ }
 {
-    let range = named(out, at, b"shape", feed::SHAPE, c);
+    let zeros = named(out, at, b"shape", feed::SHAPE, c);
+    let range = named(out, zeros, b"zeros", feed::ZEROS, c);
     let host_bits = named(out, range, b"range", feed::RANGE, c);
     let repeat = named(out, host_bits, b"hostbits", feed::HOST_BITS, c);
     let no_room = named(out, repeat, b"repeat", feed::REPEAT, c);

@@ -65,6 +65,15 @@ mul-t42 c = search needs
 element-copy-out-t45 : tie.Need-element-copy-out-t45
 element-copy-out-t45 c = search needs
 
+cast-t46 : tie.Need-cast-t46
+cast-t46 c = search needs
+
+mul-t47 : tie.Need-mul-t47
+mul-t47 c = search needs
+
+element-copy-out-t50 : tie.Need-element-copy-out-t50
+element-copy-out-t50 c = search needs
+
 same-length : tie.Need-same-length
 same-length c = search needs
 
@@ -75,8 +84,8 @@ same-length-3 : tie.Need-same-length-3
 same-length-3 c = search needs
 
 -- the places where the number is known, where the slices are known after the import, and the import itself
-abbrev at-number : tie.After-t35 → tie.After-number-of
-at-number c = c .before .before .before .before
+abbrev at-number : tie.After-t40 → tie.After-number-of
+at-number c = c .before .before .before .before .before
 
 abbrev at-slices : tie.After-number-of → tie.After-slice-known5
 at-slices c = c .before .before .before .before
@@ -114,6 +123,9 @@ whelk-import-spec =
     cast-t41
     mul-t42
     element-copy-out-t45
+    cast-t46
+    mul-t47
+    element-copy-out-t50
     same-length
     same-length-2
     same-length-3
