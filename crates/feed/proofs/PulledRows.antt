@@ -19,7 +19,7 @@ use Rattle.feed.specs.declared.RowRead.{RowRead}
 use Rattle.feed.specs.declared.NextRow.the-variants.{Row, End}
 use Rattle.feed.specs.declared.Reader.{Reader}
 use Rattle.feed.specs.Rows.{rowsIn, rowLength}
-use Rattle.feed.specs.RowNumber.{rowTaken, rowShape, rowHostBits, rowRepeat, rowNoRoom}
+use Rattle.feed.specs.RowNumber.{rowTaken, rowShape, rowHostBits, rowReplaced, rowNoRoom}
 use Rattle.feed.specs.Reading.{Reading, good, bad, readRow, readingOf}
 use Rattle.feed.specs.Import.{rowNumber, rowNumbers}
 use Rattle.feed.specs.Pull.{Pulled, before, pull, pullsFrom, pulls, PulledBy}
@@ -113,7 +113,7 @@ module _ (room : ℕ) (list : List ListRow) where
   small-is-bad n (bad m) low high e = ap bad e
   small-is-bad n (good k h) low high e = absurd (go (listed k list) (leb room (length list)) e)
     where
-      go : (b c : Bool) → cond b rowRepeat (cond c rowNoRoom rowTaken) ≡ n → ⊥
+      go : (b c : Bool) → cond b rowReplaced (cond c rowNoRoom rowTaken) ≡ n → ⊥
       go true c q = omega arith
       go false true q = omega arith
       go false false q = omega arith
