@@ -1,7 +1,7 @@
 -- What an import promises its callers, from its contract alone. Where it is done: rows in = rows taken + rows replaced + rows refused,
--- reason by reason; the rows are the feed's; the list it leaves is well-formed and has exactly the prefixes of the taken rows; the report
--- has the rows' numbers; and what lies past these is unchanged. Where it is refused: the report is shorter than the number of rows, and all
--- lent memory is as at entry.
+-- reason by reason; the rows are the feed's; the list it leaves is well-formed and has exactly the prefixes of the taken rows, each with
+-- the hop of its last row that was taken or replaced another; the report has the rows' numbers; and what lies past these is unchanged.
+-- Where it is refused: the report is shorter than the number of rows, and all lent memory is as at entry.
 -- Assumes nothing.
 use mathlib.Core.Path.{_≡_, sym, ap, _∙_}
 use mathlib.Core.Bool.{true}
@@ -28,9 +28,11 @@ use Rattle.feed.specs.Rows.{rowsIn}
 use Rattle.feed.specs.RowNumber.{rowTaken, rowShape, rowRange, rowHostBits, rowReplaced, rowNoRoom}
 use Rattle.feed.specs.RowNumber.{refusals, countsOf, noCounts, rowsWith, rowsNamed}
 use Rattle.feed.specs.Import.{rowNumbers, importedList, ImportLent, importRefused, importAccepted, import, endNumber, importGave}
+use Rattle.feed.specs.LastRow.{lastHop, hopListed}
 use Rattle.ground.proofs.Slots.{length-written}
 use Rattle.feed.proofs.Importing.{rows-taken-replaced-refused, numbers-of-rows, imported-good, imported-length, imported-in-room}
 use Rattle.feed.proofs.Importing.{TakenFrom, listed-is-taken, taken-is-listed}
+use Rattle.feed.proofs.LastRow.{last-row-wins}
 use Rattle.feed.proofs.Outcome.{import-short, done-is-accepted, refused-is-short}
 
 -- past what is written a slice is as it was
@@ -128,6 +130,10 @@ module _ (feed : List ℕ) (l : ImportLent) {r : Imported} {keys hops report : L
   pub report-has-numbers : take (c .rows) report ≡ rowNumbers (listRoom (l .keys) (l .hops)) feed
   unfolding written
   report-has-numbers = ap (take (c .rows)) report-is ∙ take-at (rowNumbers room feed) _ (c .rows) (sym numbers-are)
+
+  -- the list has for each prefix the hop of its last row that the report numbers 0 or 4
+  pub left-hop-is-last : (k : ℕ) → hopListed k (rowsOf taken keys hops) ≡ lastHop k (take (c .rows) report) (rowsIn feed)
+  left-hop-is-last k = rw (left-is-imported, report-has-numbers) (last-row-wins room feed k)
 
   pub report-past-rows : drop (c .rows) report ≡ drop (c .rows) (l .report)
   report-past-rows = rw report-is (past (rowNumbers room feed) (l .report) (c .rows) numbers-are)
