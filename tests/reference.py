@@ -1,7 +1,7 @@
 #!/usr/bin/env python3
 """A reference for the tests: the rules for feeds, plain lookup, run tables, packed segments, edits, splits, a list's text and the program, in
-Python's standard library. It was written from the rules alone, all but packed segments, edits, the text, zeros in front and replaced rows by hands that had seen none of the
-code it checks; made to be read against docs/RULES.md, not to be quick.
+Python's standard library. It was written from the rules alone, all but packed segments, edits, the text, zeros in front and replaced rows by
+hands that had seen none of the code it checks; made to be read against docs/RULES.md, not to be quick.
 
 A prefix is a pair (network, length), a route a triple (network, length, hop). As a program it reads a feed from standard input and writes
 what the program `whelk` has to write.

@@ -1,5 +1,5 @@
-/* whelk-import: reads a feed file of any size, or standard input, says of every row whether it was taken, and prints the list or the corrections
-   if asked. What an operator runs each night. Exit status: 0 if nothing was refused, 1 if something was, 2 if the call itself failed. */
+/* whelk-import: reads a feed file of any size, or standard input, names every refused row, counts all, and prints the list or the corrections if
+   asked. What an operator runs each night. Exit status: 0 if nothing was refused, 1 if something was, 2 if the call itself failed. */
 #include <arpa/inet.h>
 #include <errno.h>
 #include <signal.h>
@@ -23,7 +23,7 @@ static const char usage[] =
     "  zeros     a number of more than one digit starts with 0, as 010: ten to some, eight to others\n"
     "  range     an octet over 255, a length over 32, a hop of 0 or over 65535\n"
     "  hostbits  a bit of the address beyond the length is 1\n"
-    "  noroom    its prefix is new, and 1048576 rows are taken already\n"
+    "  noroom    its prefix isn't in the list, which has 1048576 rows\n"
     "A later row of a prefix that was taken isn't refused: its hop replaces the hop before it,\n"
     "and the row is counted as replaced.\n"
     "Options:\n"

@@ -2,7 +2,7 @@
 """Writes a feed of so many rows to a file, and the list that it leaves, as text, to another. Prints what whelk-import has to print where it
 reads the feed from standard input.
 
-The rows are in key order and their prefixes nest. Every 701st is faulty: four faults and a new hop in turn, each in a row like the last one
+The rows are in key order and their prefixes nest. Every 701st is none of them: four faults and a new hop in turn, each in a row like the last one
 taken.
 """
 import sys

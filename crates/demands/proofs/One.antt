@@ -1,7 +1,7 @@
 -- Demand 1: any feed, list, table or address may be handed to any entry. A refused call says which fault it met first, by number, and
 -- changes no lent memory. Import carries on past a bad row: every row gets its number, and rows in = rows taken + rows replaced + rows
--- refused, reason by reason. Each answer here is any that keeps its entry's contract. An entry of the library that isn't here refuses nothing; the exports give
--- the same outcomes (host, `Exports`).
+-- refused, reason by reason. Each answer here is any that keeps its entry's contract. An entry of the library that isn't here refuses
+-- nothing; the exports give the same outcomes (host, `Exports`).
 -- Its definitions: `firstFault`, `checkOrder` (ground, `Numbers`), and of each entry its outcome, its checks and its `Gave`.
 -- Assumes nothing.
 use mathlib.Core.Path.{_≡_, refl, sym, ap, _∙_}

@@ -174,7 +174,7 @@ corners =
     ∷ figure (hopsOf (importedList 9 (bytes "10.0.0.0/8 7\n9.0.0.0/8 5\n10.0.0.0/8 6\n10.0.0.0/8 8\n10.0.0.0/8 0\n10.0.0.0/8 04\n"))) (5 ∷ 8 ∷ [])
     ∷ figure (hopsOf (importedList 1 (bytes "10.0.0.0/8 7\n11.0.0.0/8 6\n10.0.0.0/8 9\n11.0.0.0/8 5\n"))) (9 ∷ [])
     ∷ figure (import (bytes "10.0.0.0/8 7\n10.0.0.0/8 9") (lent (77 ∷ 78 ∷ []) (79 ∷ 80 ∷ []) (81 ∷ 82 ∷ [])) .hops) (9 ∷ 80 ∷ [])
-    ∷ figure (asList (lastHop (prefix 10 0 0 0 8) (0 ∷ 5 ∷ 4 ∷ 5 ∷ []) (rowsIn (bytes "10.0.0.0/8 7\n11.0.0.0/8 6\n10.0.0.0/8 9\n10.0.0.0/8 5\n"))))
+    ∷ figure (asList (lastHop (prefix 10 0 0 0 8) (0 ∷ 5 ∷ 4 ∷ 2 ∷ []) (rowsIn (bytes "10.0.0.0/8 7\n11.0.0.0/8 6\n10.0.0.0/8 9\n10.0.0.0/8 0\n"))))
     (9 ∷ [])
     ∷ figure (asList (lastHop (prefix 11 0 0 0 8) (0 ∷ 5 ∷ []) (rowsIn (bytes "10.0.0.0/8 7\n11.0.0.0/8 6\n")))) []
     ∷ figure (asList (hopListed (prefix 11 0 0 0 8) nested) ++ asList (hopListed (prefix 10 64 0 0 10) nested)) (2 ∷ [])
