@@ -1,5 +1,5 @@
-/* Import of a feed in key order, repeats beside their first row, and of feeds in other orders: with 255.255.255.255/32 put first, with one row in
-   100 moved elsewhere, and shuffled. In key order both sides find a row's place at the last key. Else both halve, and then move the rows behind
+/* Import of a feed in key order, later rows of a prefix beside its first one, and of feeds in other orders: with 255.255.255.255/32 put first,
+   with one row in 100 moved elsewhere, and shuffled. In key order both sides find a row's place at the last key. Else both halve, and then move the rows behind
    the place by one: where these are many, the time for a row grows with the rows before it, and past 100,000 rows that stops being bearable. */
 #include "in_c.h"
 #include "measure.h"

@@ -94,14 +94,14 @@ static inline const char *whelk_number_text(size_t number)
 
 /* What became of a row of a feed, as a report or a pull says it. */
 enum whelk_row_number {
-    WHELK_ROW_TAKEN = 0,    /* its prefix and hop are in the list now; in a pull, a good row */
+    WHELK_ROW_TAKEN = 0,    /* its prefix is in the list now, with its hop unless a later row replaced it; in a pull, a good row */
     WHELK_ROW_SHAPE = 1,    /* it isn't `a.b.c.d/len hop`, with 1 to 3 digits for an octet, 1 or 2 for the length and 1 to 5 for the hop; an empty
                                row, a CR, a tab and a second space are wrong too */
     WHELK_ROW_RANGE = 2,    /* its shape is right and no number has a zero in front, but an octet is above 255, the length above 32, the hop 0 or
                                above 65,535 */
     WHELK_ROW_HOSTBITS = 3, /* a bit of the address beyond the length is 1 */
-    WHELK_ROW_REPEAT = 4,   /* an earlier row with the same prefix was taken */
-    WHELK_ROW_NOROOM = 5,   /* the list is full */
+    WHELK_ROW_REPLACED = 4, /* an earlier row with the same prefix was taken, and the prefix has this row's hop now: a correction, and no refusal */
+    WHELK_ROW_NOROOM = 5,   /* the list is full, and the prefix isn't in it */
     WHELK_ROW_ZEROS = 6     /* its shape is right, but a number of more than one digit starts with 0, as 010: some read that as ten and some as
                                eight. This is judged after shape and before range */
 };
@@ -114,7 +114,7 @@ static inline const char *whelk_row_number_text(size_t number)
     case WHELK_ROW_SHAPE: return "shape";
     case WHELK_ROW_RANGE: return "range";
     case WHELK_ROW_HOSTBITS: return "hostbits";
-    case WHELK_ROW_REPEAT: return "repeat";
+    case WHELK_ROW_REPLACED: return "replaced";
     case WHELK_ROW_NOROOM: return "noroom";
     case WHELK_ROW_ZEROS: return "zeros";
     default: return "a number that no row has";
@@ -149,7 +149,8 @@ static inline unsigned whelk_key_length(uint64_t key)
    matches. A list of n rows has at most 2n + 1 runs, and an empty list has one, with hop 0: build it before the first announcement. */
 #define WHELK_TOP_RUNS 2097153 /* the most runs of a run table */
 
-/* What an import returns: its number, and eight counts. rows is the sum of the seven others. */
+/* What an import returns: its number, and eight counts. rows is the sum of the seven others. The rows that were refused are those that are
+   neither taken nor replaced. */
 struct whelk_counts {
     size_t number;
     size_t rows;
@@ -157,15 +158,16 @@ struct whelk_counts {
     size_t shape;
     size_t range;
     size_t hostbits;
-    size_t repeat;
+    size_t replaced;
     size_t noroom;
     size_t zeros;
 };
 
-/* Imports a text feed as a new list. A row is `a.b.c.d/len hop`. It ends with an LF, and the last one may end with the feed. Each row is taken or
-   refused, and gets its number. Time: linear if the rows go by address as a number, and by length where that is the same. A row out of that
-   order costs a search and a move of the rows behind its place, so a long feed in random order takes quadratic time. (A sort of the text isn't
-   that order: it puts 100.0.0.0 before 20.0.0.0.)
+/* Imports a text feed as a new list. A row is `a.b.c.d/len hop`. It ends with an LF, and the last one may end with the feed. Each row is taken,
+   replaces the hop of its prefix, or is refused, and gets its number. A prefix ends with the hop of its last row that isn't refused. Time: linear if
+   the rows go by address as a number, and by length where that is the same. A row out of that order costs a search and, if its prefix is new, a
+   move of the rows behind its place, so a long feed in random order takes quadratic time. (A sort of the text isn't that order: it puts 100.0.0.0
+   before 20.0.0.0.)
    Lend keys, hops and report with one slot more than the feed has LFs; that is always enough. What they held doesn't matter. At most as many
    rows are taken as the shorter of keys and hops has slots, and at most WHELK_TOP_ROWS.
    Returns number 0 and the counts; or 12 if the report has fewer bytes than the feed has rows.
@@ -182,7 +184,7 @@ struct whelk_tally {
     size_t shape;
     size_t range;
     size_t hostbits;
-    size_t repeat;
+    size_t replaced;
     size_t noroom;
     size_t zeros;
 };

@@ -1,7 +1,7 @@
 #!/usr/bin/env python3
 """A reference for the tests: the rules for feeds, plain lookup, run tables, packed segments, edits, splits, a list's text and the program, in
-Python's standard library. It was written from the rules alone, all but packed segments, edits, the text and zeros in front by hands that had seen none of the
-code it checks; made to be read against docs/RULES.md, not to be quick.
+Python's standard library. It was written from the rules alone, all but packed segments, edits, the text, zeros in front and replaced rows by
+hands that had seen none of the code it checks; made to be read against docs/RULES.md, not to be quick.
 
 A prefix is a pair (network, length), a route a triple (network, length, hop). As a program it reads a feed from standard input and writes
 what the program `whelk` has to write.
@@ -9,11 +9,11 @@ what the program `whelk` has to write.
 import re
 import sys
 
-NAMES = ["rows", "taken", "shape", "zeros", "range", "hostbits", "repeat", "noroom"]
+NAMES = ["rows", "taken", "shape", "zeros", "range", "hostbits", "replaced", "noroom"]
 
-TAKEN, SHAPE, RANGE, HOST_BITS, REPEAT, NO_ROOM, ZEROS = range(7)
+TAKEN, SHAPE, RANGE, HOST_BITS, REPLACED, NO_ROOM, ZEROS = range(7)
 
-LINES = [TAKEN, SHAPE, ZEROS, RANGE, HOST_BITS, REPEAT, NO_ROOM]  # the row numbers in the order of NAMES
+LINES = [TAKEN, SHAPE, ZEROS, RANGE, HOST_BITS, REPLACED, NO_ROOM]  # the row numbers in the order of NAMES
 
 SPACE = 2 ** 32          # an address is a number below this
 TOP_ROOM = 1_048_576     # the most rows that any list may hold
@@ -65,7 +65,8 @@ def import_feed(feed, room):
             continue
         prefix, hop = said
         if prefix in taken:
-            numbers.append(REPEAT)
+            numbers.append(REPLACED)
+            taken[prefix] = hop
         elif len(taken) >= room:
             numbers.append(NO_ROOM)
         else:

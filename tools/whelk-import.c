@@ -1,5 +1,5 @@
-/* whelk-import: reads a feed file of any size, or standard input, says of every row whether it was taken, and prints the list if asked. What an
-   operator runs each night. Exit status: 0 if nothing was refused, 1 if something was, 2 if the call itself failed. */
+/* whelk-import: reads a feed file of any size, or standard input, names every refused row, counts all, and prints the list or the corrections if
+   asked. What an operator runs each night. Exit status: 0 if nothing was refused, 1 if something was, 2 if the call itself failed. */
 #include <arpa/inet.h>
 #include <errno.h>
 #include <signal.h>
@@ -10,7 +10,7 @@
 #include "whelkhollow.h"
 
 static const char usage[] =
-    "usage: whelk-import [--list] [--quiet] [--] [FILE]\n"
+    "usage: whelk-import [--list] [--quiet] [--replaced] [--] [FILE]\n"
     "Reads a route feed from FILE, a row a line: a.b.c.d/len hop\n"
     "Without FILE, or if FILE is -, it reads standard input.\n"
     "Names every refused row as FILE:LINE: reason: the row, then prints the eight counts.\n"
@@ -23,13 +23,17 @@ static const char usage[] =
     "  zeros     a number of more than one digit starts with 0, as 010: ten to some, eight to others\n"
     "  range     an octet over 255, a length over 32, a hop of 0 or over 65535\n"
     "  hostbits  a bit of the address beyond the length is 1\n"
-    "  repeat    an earlier row with the same prefix was taken\n"
-    "  noroom    1048576 rows are taken already\n"
+    "  noroom    its prefix isn't in the list, which has 1048576 rows\n"
+    "A later row of a prefix that was taken isn't refused: its hop replaces the hop before it,\n"
+    "and the row is counted as replaced.\n"
     "Options:\n"
-    "  --list    prints the taken rows on standard output, by address and then by length,\n"
+    "  --list    prints the list that is left on standard output, by address and then by length,\n"
     "            numbers without zeros in front, and nothing else there: it is a feed again.\n"
-    "            Refused rows, counts and hints then go to standard error.\n"
+    "            All else then goes to standard error.\n"
     "  --quiet   doesn't name refused rows; counts and hints are still printed\n"
+    "  --replaced\n"
+    "            names every replacing row too, behind the refused ones, with the line and the\n"
+    "            hop that it replaces, as FILE:LINE: replaced: row (line N had hop H)\n"
     "  --version prints the version\n"
     "  --help    prints this text, and so does -h\n"
     "  --        ends the options, for a FILE whose name begins with -\n"
@@ -200,6 +204,12 @@ static const struct {
 
 #define PATTERNS (sizeof patterns / sizeof *patterns)
 
+/* Whether a row was refused: neither taken nor put in the place of an earlier row's hop. */
+static int is_refused(uint8_t number)
+{
+    return number != WHELK_ROW_TAKEN && number != WHELK_ROW_REPLACED;
+}
+
 /* Names the refused rows, where there is a stream for that, and counts those of bad shape by their pattern. */
 static void name_refused(FILE *out, const char *name, const uint8_t *feed, size_t length, const uint8_t *report, size_t *fit)
 {
@@ -207,7 +217,7 @@ static void name_refused(FILE *out, const char *name, const uint8_t *feed, size_
     for (size_t at = 0; at < length; line++) {
         const uint8_t *lf = memchr(feed + at, '\n', length - at);
         size_t end = lf ? (size_t)(lf - feed) : length;
-        if (out && report[line] != WHELK_ROW_TAKEN) {
+        if (out && is_refused(report[line])) {
             fprintf(out, "%s:%zu: %s: ", name, line + 1, whelk_row_number_text(report[line]));
             print_row(out, feed + at, end - at);
         }
@@ -218,6 +228,45 @@ static void name_refused(FILE *out, const char *name, const uint8_t *feed, size_
         }
         at = end + 1;
     }
+}
+
+/* The place of a listed key. */
+static size_t place_of(const uint64_t *keys, size_t count, uint64_t key)
+{
+    size_t low = 0;
+    while (count > 1) {
+        size_t half = count / 2;
+        if (keys[low + half] <= key) low += half;
+        count -= half;
+    }
+    return low;
+}
+
+/* Names every row whose hop replaced another, with the line and the hop of the row that it replaced: the last one before it that had the prefix's
+   hop in the list. 0, or the status of a failed call. */
+static int name_replaced(FILE *out, const char *name, const uint8_t *feed, size_t length, const uint8_t *report, const uint64_t *keys,
+                         size_t count)
+{
+    struct last {
+        size_t line;
+        uint16_t hop;
+    } *last = malloc((count + 1) * sizeof *last);
+    if (!last) return fail(name, strerror(ENOMEM));
+    struct whelk_row row;
+    size_t line = 0;
+    for (size_t at = 0; (row = whelk_pull(feed, length, at)).found; at = row.next, line++) {
+        if (is_refused(report[line])) continue;
+        struct last *before = last + place_of(keys, count, row.key);
+        if (report[line] == WHELK_ROW_REPLACED) {
+            size_t end = feed[row.next - 1] == '\n' ? row.next - 1 : row.next;
+            fprintf(out, "%s:%zu: replaced: %.*s (line %zu had hop %u)\n", name, line + 1, (int)(end - at), (const char *)feed + at,
+                    before->line, (unsigned)before->hop);
+        }
+        before->line = line + 1;
+        before->hop = row.hop;
+    }
+    free(last);
+    return 0;
 }
 
 /* A file's name as a word for bash: in quotes where it needs them, and with bytes that don't print in octal. */
@@ -290,7 +339,7 @@ static int print_list(size_t count, const uint64_t *keys, const uint16_t *hops)
 int main(int argc, char **argv)
 {
     const char *name = NULL;
-    int list = 0, quiet = 0, options = 1;
+    int list = 0, quiet = 0, replaced = 0, options = 1;
     signal(SIGPIPE, SIG_IGN); /* so that writing to a closed pipe fails like any other write, and is said */
     for (int i = 1; i < argc; i++) {
         if (!options || argv[i][0] != '-' || argv[i][1] == '\0') {
@@ -302,6 +351,8 @@ int main(int argc, char **argv)
             list = 1;
         } else if (strcmp(argv[i], "--quiet") == 0) {
             quiet = 1;
+        } else if (strcmp(argv[i], "--replaced") == 0) {
+            replaced = 1;
         } else if (strcmp(argv[i], "--version") == 0) {
             puts("whelk-import " WHELK_VERSION);
             return sent(stdout, "standard output");
@@ -339,11 +390,15 @@ int main(int argc, char **argv)
     if (list) setvbuf(stderr, NULL, _IOFBF, BUFSIZ);
     size_t fit[PATTERNS] = {0};
     name_refused(quiet ? NULL : out, name, feed, length, report, fit);
-    fprintf(out, "rows %zu\ntaken %zu\nshape %zu\nzeros %zu\nrange %zu\nhostbits %zu\nrepeat %zu\nnoroom %zu\n", counts.rows, counts.taken,
-            counts.shape, counts.zeros, counts.range, counts.hostbits, counts.repeat, counts.noroom);
+    if (replaced) {
+        int failed = name_replaced(out, name, feed, length, report, keys, counts.taken);
+        if (failed) return failed;
+    }
+    fprintf(out, "rows %zu\ntaken %zu\nshape %zu\nzeros %zu\nrange %zu\nhostbits %zu\nreplaced %zu\nnoroom %zu\n", counts.rows,
+            counts.taken, counts.shape, counts.zeros, counts.range, counts.hostbits, counts.replaced, counts.noroom);
     print_hints(out, name, fit);
     int failed = sent(out, list ? "standard error" : "standard output");
     if (!failed && list) failed = print_list(counts.taken, keys, hops);
     if (failed) return failed;
-    return counts.taken == counts.rows ? 0 : 1;
+    return counts.taken + counts.replaced == counts.rows ? 0 : 1;
 }

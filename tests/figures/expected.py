@@ -46,7 +46,7 @@ IMPORTS = [
     ("hops of length 0", b"1.0.0.0/8 1\n", 2, 0, 2),
     ("more keys than hops", b"3.0.0.0/8 3\n2.0.0.0/8 2\n1.0.0.0/8 1\n", 4, 2, 4),
     ("more hops than keys", b"3.0.0.0/8 3\n2.0.0.0/8 2\n1.0.0.0/8 1\n", 2, 4, 4),
-    ("repeats after no room",
+    ("replaced rows, and no room",
      b"1.0.0.0/8 1\n2.0.0.0/8 2\n2.0.0.0/8 3\n1.0.0.0/8 4\n2.0.0.0/9 5\n\n2.0.0.1/8 6\n", 1, 1, 8),
     ("a report as long as the rows", b"1.0.0.0/8 1\n\n2.0.0.0/8 2", 3, 3, 3),
     ("a report one byte short", b"1.0.0.0/8 1\n\n2.0.0.0/8 2", 3, 3, 2),

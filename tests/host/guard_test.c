@@ -164,7 +164,7 @@ static void imports(void)
                         call(name, c.number == 12 && c.rows == 0 && c.taken == 0 && list_stays() && stays(REPORT));
                     } else {
                         call(name, c.number == 0 && c.rows == rows && c.taken == fit && c.noroom == rows - fit &&
-                             c.shape + c.zeros + c.range + c.hostbits + c.repeat == 0 && left(KEYS, list_keys, fit) && left(HOPS, list_hops, fit) &&
+                             c.shape + c.zeros + c.range + c.hostbits + c.replaced == 0 && left(KEYS, list_keys, fit) && left(HOPS, list_hops, fit) &&
                              left(REPORT, numbers, rows));
                     }
                     call(name, stays(FEED));

@@ -19,26 +19,26 @@ static void imports(void)
     struct whelk_counts c =
         whelk_import((const uint8_t *)five, strlen(five), keys, 4, hops, 4, report, 6);
     check("five rows: counts", c.number == 0 && c.rows == 5 && c.taken == 1 && c.shape == 1 && c.range == 1 && c.hostbits == 1 &&
-                                   c.repeat == 1 && c.noroom == 0 && c.zeros == 0);
+                                   c.replaced == 1 && c.noroom == 0 && c.zeros == 0);
     const uint8_t numbers[6] = {0, 3, 4, 1, 2, 99};
     check("five rows: report", memcmp(report, numbers, 6) == 0);
-    check("five rows: list", keys[0] == key(10, 0, 0, 0, 8) && hops[0] == 7 && keys[1] == 77 && hops[1] == 88);
+    check("five rows: list", keys[0] == key(10, 0, 0, 0, 8) && hops[0] == 9 && keys[1] == 77 && hops[1] == 88);
     c = whelk_import((const uint8_t *)five, strlen(five), keys, 4, hops, 4, report, 4);
     check("a short report is 12, and nothing is written",
           c.number == WHELK_REPORT_SHORT && c.rows == 0 && c.taken == 0 && memcmp(report, numbers, 6) == 0 && keys[0] == key(10, 0, 0, 0, 8));
     c = whelk_import((const uint8_t *)five, 0, keys, 4, hops, 4, report, 0);
     check("an empty feed", c.number == 0 && c.rows == 0 && c.taken == 0);
     c = whelk_import((const uint8_t *)five, strlen(five), keys, 0, hops, 4, report, 6);
-    check("no room", c.number == 0 && c.rows == 5 && c.taken == 0 && c.noroom == 2 && c.repeat == 0 && report[0] == 5 && report[2] == 5);
+    check("no room", c.number == 0 && c.rows == 5 && c.taken == 0 && c.noroom == 2 && c.replaced == 0 && report[0] == 5 && report[2] == 5);
     /* places at both ends of the list: the last prefix first, each again, one between, no LF at the end */
     const char mixed[] = "255.255.255.255/32 5\n0.0.0.0/0 4\n255.255.255.255/32 6\n0.0.0.0/0 3\n10.0.0.0/8 7\n0.0.0.0/32 8";
     const uint8_t mixed_numbers[6] = {0, 0, 4, 4, 0, 0};
     c = whelk_import((const uint8_t *)mixed, strlen(mixed), keys, 4, hops, 4, report, 6);
-    check("out of order, at both ends: counts", c.number == 0 && c.rows == 6 && c.taken == 4 && c.repeat == 2);
+    check("out of order, at both ends: counts", c.number == 0 && c.rows == 6 && c.taken == 4 && c.replaced == 2);
     check("out of order, at both ends: report", memcmp(report, mixed_numbers, 6) == 0);
     check("out of order, at both ends: list", keys[0] == 0 && keys[1] == 32 && keys[2] == key(10, 0, 0, 0, 8) &&
-                                                  keys[3] == key(255, 255, 255, 255, 32) && hops[0] == 4 && hops[1] == 8 && hops[2] == 7 &&
-                                                  hops[3] == 5);
+                                                  keys[3] == key(255, 255, 255, 255, 32) && hops[0] == 3 && hops[1] == 8 && hops[2] == 7 &&
+                                                  hops[3] == 6);
 }
 
 /* A sorted feed of many rows, and lookups in the list that it leaves. */

@@ -1,5 +1,5 @@
 #!/usr/bin/env python3
-"""Runs `whelk-import --list` on every feed of a folder, and on feeds of rows that hints are for, and compares the list, what is said of the
+"""Runs `whelk-import --list --replaced` on every feed of a folder, and on feeds of rows that hints are for, and compares the list, what is said of the
 rows, the hints and the exit status with the reference's. Then pipes the list back in: the same list comes out, and every row is taken. The last
 line is 'N passed, M failed'.
 
@@ -13,7 +13,7 @@ import subprocess
 import sys
 
 sys.path.insert(0, str(pathlib.Path(__file__).resolve().parent.parent))
-from reference import LINES, NAMES, SHAPE, TAKEN, TOP_ROOM, counts_of, import_feed, list_text, rows_of
+from reference import LINES, NAMES, REPLACED, SHAPE, TAKEN, TOP_ROOM, counts_of, import_feed, list_text, read_row, rows_of
 
 FOUR = rb"\d+(\.\d+){3}"
 HINTS = (
@@ -61,21 +61,33 @@ def shown(row):
     return text if len(row) <= 200 else f"{text} .. ({len(row)} bytes)"
 
 
+def replaced_of(rows, numbers):
+    """The lines of the rows whose hop replaced another: by prefix, the line and the hop of the row that gave it its hop."""
+    last = {}
+    for line, (row, number) in enumerate(zip(rows, numbers), 1):
+        if number in (TAKEN, REPLACED):
+            prefix, hop = read_row(row)
+            if number == REPLACED:
+                yield "-:{}: replaced: {} (line {} had hop {})\n".format(line, row.decode(), *last[prefix])
+            last[prefix] = line, hop
+
+
 def expected(feed):
-    """What `whelk-import --list` has to print for a feed on its two streams, and its exit status."""
+    """What `whelk-import --list --replaced` has to print for a feed on its two streams, and its exit status."""
     numbers, routes = import_feed(feed, TOP_ROOM)
     refused = [
         f"-:{line}: {NAMES[LINES.index(number) + 1]}: {shown(row)}\n"
         for line, (row, number) in enumerate(zip(rows_of(feed), numbers), 1)
-        if number != TAKEN
+        if number not in (TAKEN, REPLACED)
     ]
     counts = [f"{name} {count}\n" for name, count in zip(NAMES, counts_of(numbers))]
     hints = hints_of(row for row, number in zip(rows_of(feed), numbers) if number == SHAPE)
-    return list_text(routes).encode(), "".join(refused + counts + hints).encode(), 1 if refused else 0
+    replaced = list(replaced_of(rows_of(feed), numbers))
+    return list_text(routes).encode(), "".join(refused + replaced + counts + hints).encode(), 1 if refused else 0
 
 
 def printed(feed):
-    done = subprocess.run([*sys.argv[2:], "--list"], input=feed, capture_output=True, timeout=60, check=False)
+    done = subprocess.run([*sys.argv[2:], "--list", "--replaced"], input=feed, capture_output=True, timeout=60, check=False)
     return done.stdout, done.stderr, done.returncode
 
 

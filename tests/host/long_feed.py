@@ -2,12 +2,13 @@
 """Writes a feed of so many rows to a file, and the list that it leaves, as text, to another. Prints what whelk-import has to print where it
 reads the feed from standard input.
 
-The rows are in key order and their prefixes nest. Every 701st is faulty: the five faults in turn, each in a row like the last one taken.
+The rows are in key order and their prefixes nest. Every 701st is none of them: four faults and a new hop in turn, each in a row like the last one
+taken.
 """
 import sys
 
 TOP_ROOM = 1048576
-REASONS = ("shape", "zeros", "range", "hostbits", "repeat", "noroom")
+NAMES = ("shape", "zeros", "range", "hostbits", "replaced", "noroom")
 
 
 def prefixes():
@@ -24,14 +25,14 @@ def prefixes():
 
 
 def fault(i, last):
-    """The i-th faulty row, and what is wrong with it."""
+    """The i-th such row, and what it is counted as."""
     rows = (last + "  7", last + " 07", last + " 65536", last.replace(".0/", ".1/") + " 7", last + " 7")
-    return rows[i % 5], REASONS[i % 5]
+    return rows[i % 5], NAMES[i % 5]
 
 
 rows, good, last, taken = int(sys.argv[1]), prefixes(), "", 0
-refused = dict.fromkeys(REASONS, 0)
-with open(sys.argv[2], "w", encoding="ascii") as feed, open(sys.argv[3], "w", encoding="ascii") as listed:
+counted, listed = dict.fromkeys(NAMES, 0), []
+with open(sys.argv[2], "w", encoding="ascii") as feed:
     for line in range(1, rows + 1):
         if line % 701 == 0:
             row, why = fault(line // 701, last)
@@ -41,12 +42,17 @@ with open(sys.argv[2], "w", encoding="ascii") as feed, open(sys.argv[3], "w", en
             if taken < TOP_ROOM:
                 last, taken, why = prefix, taken + 1, None
         feed.write(row + "\n")
-        if why:
-            refused[why] += 1
-            print(f"-:{line}: {why}: {row}")
+        if not why:
+            listed.append(row)
+            continue
+        counted[why] += 1
+        if why == "replaced":
+            listed[-1] = row
         else:
-            listed.write(row + "\n")
+            print(f"-:{line}: {why}: {row}")
+with open(sys.argv[3], "w", encoding="ascii") as text:
+    text.writelines(row + "\n" for row in listed)
 print(f"rows {rows}\ntaken {taken}")
-for why in REASONS:
-    print(why.replace(" ", ""), refused[why])
-print(f"hint: of the rows with bad shape, {refused['shape']} have more than one space; write only the one before the hop")
+for name in NAMES:
+    print(name, counted[name])
+print(f"hint: of the rows with bad shape, {counted['shape']} have more than one space; write only the one before the hop")

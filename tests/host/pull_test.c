@@ -79,14 +79,17 @@ static int every_place(const uint8_t *feed, size_t length)
 enum { top_rows = 4096, top_bytes = 131072 };
 
 /* Pulls from place 0 until there is no row, beside the import of the feed into so much room: as many rows as it counts, 1, 2, 3 and 6 where
-   its report has them, and a key and a hop where it has 0, 4 or 5. A taken row stands in the list. */
+   its report has them, and a key and a hop where it has 0, 4 or 5. The list has the prefix of each taken row,
+   with the hop of its last row with 0 or 4. */
 static int in_turn(const uint8_t *feed, size_t length, size_t room)
 {
     static uint64_t keys[top_rows];
     static uint16_t hops[top_rows];
     static uint8_t report[top_rows];
+    static uint16_t last[top_rows];
     struct whelk_counts c = whelk_import(feed, length, keys, room, hops, room, report, top_rows);
     size_t rows = 0, faults[7] = {0}, place = 0;
+    memset(last, 0, sizeof last);
     int ok = c.number == WHELK_DONE;
     for (;;) {
         struct whelk_row r = whelk_pull(feed, length, place);
@@ -100,21 +103,24 @@ static int in_turn(const uint8_t *feed, size_t length, size_t room)
         ok &= r.number == (number == 4 || number == 5 ? 0 : number);
         ok &= (r.number == 0) == (r.hop != 0);
         faults[r.number]++;
-        if (number == 0) {
+        if (number == 0 || number == 4) {
             size_t i = 0;
             while (i < c.taken && keys[i] != r.key) i++;
-            ok &= i < c.taken && hops[i] == r.hop;
+            if (i == c.taken) return 0;
+            ok &= (last[i] == 0) == (number == 0);
+            last[i] = r.hop;
         }
         place = r.next;
     }
-    return ok & (rows == c.rows) & (faults[0] == c.taken + c.repeat + c.noroom) & (faults[1] == c.shape) & (faults[2] == c.range) &
+    ok &= memcmp(last, hops, c.taken * sizeof last[0]) == 0;
+    return ok & (rows == c.rows) & (faults[0] == c.taken + c.replaced + c.noroom) & (faults[1] == c.shape) & (faults[2] == c.range) &
            (faults[3] == c.hostbits) & (faults[6] == c.zeros) & (faults[4] + faults[5] == 0);
 }
 
 static int counts_are(const struct whelk_tally *t, const struct whelk_counts *c)
 {
     return t->rows == c->rows && t->taken == c->taken && t->shape == c->shape && t->range == c->range && t->hostbits == c->hostbits &&
-           t->repeat == c->repeat && t->noroom == c->noroom && t->zeros == c->zeros;
+           t->replaced == c->replaced && t->noroom == c->noroom && t->zeros == c->zeros;
 }
 
 /* The import with a lent tally beside the one that returns its counts, into so much room and a report of just so many bytes, and then into
@@ -217,9 +223,9 @@ static void tally_by_hand(void)
     check("a tally: on 12 it stays as it was", t.rows == 9 && t.taken == 9 && t.noroom == 9 && t.zeros == 9);
     check("a tally: done", whelk_import_tally((const uint8_t *)five, strlen(five), keys, 4, hops, 4, report, 5, &t) == WHELK_DONE);
     check("a tally: five rows",
-          t.rows == 5 && t.taken == 1 && t.shape == 1 && t.range == 1 && t.hostbits == 1 && t.repeat == 1 && t.noroom == 0 &&
+          t.rows == 5 && t.taken == 1 && t.shape == 1 && t.range == 1 && t.hostbits == 1 && t.replaced == 1 && t.noroom == 0 &&
               t.zeros == 0);
-    check("a tally: the list", keys[0] == (uint64_t)0x0a000000 * 64 + 8 && hops[0] == 7 && memcmp(report, "\0\3\4\1\2", 5) == 0);
+    check("a tally: the list", keys[0] == (uint64_t)0x0a000000 * 64 + 8 && hops[0] == 9 && memcmp(report, "\0\3\4\1\2", 5) == 0);
 }
 
 /* Two rows with one byte replaced, by every byte and at every place. */
@@ -251,7 +257,7 @@ static uint32_t draw(uint32_t below)
     return seed % below;
 }
 
-/* Drawn rows, of which some are good, some repeat, and some have a value, a zero in front or a byte that spoils
+/* Drawn rows, of which some are good, some come again, and some have a value, a zero in front or a byte that spoils
    them. */
 static size_t drawn(uint8_t *feed, int rows, int last_lf)
 {

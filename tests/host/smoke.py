@@ -5,7 +5,7 @@ from ctypes import CDLL, Structure, byref, c_size_t, c_uint8, c_uint16, c_uint32
 
 
 class Counts(Structure):
-    _fields_ = [(name, c_size_t) for name in ("number", "rows", "taken", "shape", "range", "hostbits", "repeat", "noroom", "zeros")]
+    _fields_ = [(name, c_size_t) for name in ("number", "rows", "taken", "shape", "range", "hostbits", "replaced", "noroom", "zeros")]
 
 
 class Tally(Structure):

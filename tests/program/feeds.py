@@ -20,7 +20,7 @@ def corners():
     hosts = b"".join(row(host, 32, 1 + host % 3) for host in range(1025))
     yield "rows_1024", b"".join(hosts.splitlines(True)[:1024])
     yield "rows_1025", hosts
-    yield "rows_1025_and_repeats", hosts + row(1024, 32, 5) + row(0, 32, 5)
+    yield "rows_1025_and_later_rows", hosts + row(1024, 32, 5) + row(0, 32, 5)
     yield "runs_2049", b"".join(row(2 * host + 1, 32, 1) for host in range(1024))
     for name, length in (("longest", LONGEST), ("too_long", LONGEST + 1), ("twice_too_long", 2 * LONGEST)):
         yield name + "_lfs", b"\n" * length

@@ -1,7 +1,7 @@
 -- Demand 1: any feed, list, table or address may be handed to any entry. A refused call says which fault it met first, by number, and
--- changes no lent memory. Import carries on past a bad row: every row gets its number, and rows in = rows taken + rows refused, reason by
--- reason. Each answer here is any that keeps its entry's contract. An entry of the library that isn't here refuses nothing; the exports give
--- the same outcomes (host, `Exports`).
+-- changes no lent memory. Import carries on past a bad row: every row gets its number, and rows in = rows taken + rows replaced + rows
+-- refused, reason by reason. Each answer here is any that keeps its entry's contract. An entry of the library that isn't here refuses
+-- nothing; the exports give the same outcomes (host, `Exports`).
 -- Its definitions: `firstFault`, `checkOrder` (ground, `Numbers`), and of each entry its outcome, its checks and its `Gave`.
 -- Assumes nothing.
 use mathlib.Core.Path.{_≡_, refl, sym, ap, _∙_}
@@ -18,9 +18,9 @@ use Rattle.feed.specs.declared.Imported.{Imported}
 use Rattle.feed.specs.declared.ImportEnd.{ImportEnd}
 use Rattle.feed.specs.declared.ImportEnd.the-variants.{Done, ReportShort}
 use Rattle.feed.specs.Rows.{rowsIn}
-use Rattle.feed.specs.RowNumber.{rowsWith, rowTaken, rowShape, rowZeros, rowRange, rowHostBits, rowRepeat, rowNoRoom}
+use Rattle.feed.specs.RowNumber.{rowsWith, rowTaken, rowShape, rowZeros, rowRange, rowHostBits, rowReplaced, rowNoRoom}
 use Rattle.feed.specs.Import.{ImportLent, ImportOutcome, importGave, import, importChecks, importRefused, rowNumbers, endNumber, TallyGave}
-use Rattle.feed.proofs.Promise.{rows-are-taken-and-refused, rows-are-all-rows, report-has-numbers}
+use Rattle.feed.proofs.Promise.{rows-are-taken-replaced-refused, rows-are-all-rows, report-has-numbers}
 use Rattle.feed.proofs.TallyPromise.{tally-is-counts, tally-untouched}
 use Rattle.runs.specs.declared.Built.{Built}
 use Rattle.runs.specs.declared.Paired.{Paired}
@@ -130,20 +130,21 @@ refusals = record {
   writes = λ l buffer r out. first-of (λ (o : WriteOutcome). o .number) _ _ _ (λ n. refl) refl (orders .write l buffer) (writeGave r out);
 }
 
--- an import that is done: every row of the feed is counted, taken or under one reason, and has its number in the report
+-- an import that is done: every row of the feed is counted, as taken, as replaced or under one reason, and has its number in the
+-- report
 pub record EveryRow (feed : List ℕ) (l : ImportLent) (c : Counts) (report : List ℕ) : Type 0 where
   pub all-rows : c .rows ≡ length (rowsIn feed)
-  pub taken-and-refused : c .rows
+  pub taken-replaced-refused : c .rows
       ≡ rowsWith rowTaken c
-      + (rowsWith rowShape c
-      + (rowsWith rowZeros c + (rowsWith rowRange c + (rowsWith rowHostBits c + (rowsWith rowRepeat c + rowsWith rowNoRoom c)))))
+      + (rowsWith rowReplaced c
+      + (rowsWith rowShape c + (rowsWith rowZeros c + (rowsWith rowRange c + (rowsWith rowHostBits c + rowsWith rowNoRoom c)))))
   pub each-numbered : take (c .rows) report ≡ rowNumbers (listRoom (l .keys) (l .hops)) feed
 
 pub every-row : (feed : List ℕ) (l : ImportLent) (r : Imported) (keys hops report : List ℕ) → importGave r keys hops report ≡ import feed l
     → r .end ≡ Done → EveryRow feed l (r .counts) report
 every-row feed l r keys hops report g ended = record {
   all-rows = rows-are-all-rows feed l g ended;
-  taken-and-refused = rows-are-taken-and-refused feed l g ended;
+  taken-replaced-refused = rows-are-taken-replaced-refused feed l g ended;
   each-numbered = report-has-numbers feed l g ended;
 }
 

@@ -2,6 +2,7 @@ pub mod Reading
 pub mod Counting
 mod OneRow
 pub mod Importing
+pub mod LastRow
 mod Fields
 mod Judging
 mod RowParse

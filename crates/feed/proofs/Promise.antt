@@ -1,6 +1,7 @@
--- What an import promises its callers, from its contract alone. Where it is done: rows in = rows taken + rows refused, reason by reason;
--- the rows are the feed's; the list it leaves is well-formed and has exactly the taken rows; the report has the rows' numbers; and what
--- lies past these is unchanged. Where it is refused: the report is shorter than the number of rows, and all lent memory is as at entry.
+-- What an import promises its callers, from its contract alone. Where it is done: rows in = rows taken + rows replaced + rows refused,
+-- reason by reason; the rows are the feed's; the list it leaves is well-formed and has exactly the prefixes of the taken rows, each with
+-- the hop of its last row that was taken or replaced another; the report has the rows' numbers; and what lies past these is unchanged.
+-- Where it is refused: the report is shorter than the number of rows, and all lent memory is as at entry.
 -- Assumes nothing.
 use mathlib.Core.Path.{_≡_, sym, ap, _∙_}
 use mathlib.Core.Bool.{true}
@@ -15,21 +16,23 @@ use borrow.Author.Tests.{le-leb}
 use Rattle.ground.specs.Numbers.{reportShort}
 use Rattle.ground.specs.Slots.{written}
 use Rattle.ground.proofs.Truth.{and-both}
-use Rattle.routes.specs.Row.{Row, rowsOf, keysOf, hopsOf, listRoom}
+use Rattle.routes.specs.Row.{rowsOf, keysOf, hopsOf, listRoom}
 use Rattle.routes.specs.WellFormed.{wellFormed, goodRows}
-use Rattle.routes.proofs.Row.{Has}
+use Rattle.routes.specs.Change.{listed}
 use Rattle.routes.proofs.WellFormed.{parts-good}
 use Rattle.routes.proofs.Columns.{rows-of-columns}
 use Rattle.feed.specs.declared.Counts.{Counts}
 use Rattle.feed.specs.declared.Imported.{Imported}
 use Rattle.feed.specs.declared.ImportEnd.the-variants.{Done, ReportShort}
 use Rattle.feed.specs.Rows.{rowsIn}
-use Rattle.feed.specs.RowNumber.{rowTaken, rowShape, rowZeros, rowRange, rowHostBits, rowRepeat, rowNoRoom}
-use Rattle.feed.specs.RowNumber.{reasons, countsOf, noCounts, rowsWith, rowsNamed}
+use Rattle.feed.specs.RowNumber.{rowTaken, rowShape, rowZeros, rowRange, rowHostBits, rowReplaced, rowNoRoom}
+use Rattle.feed.specs.RowNumber.{refusals, countsOf, noCounts, rowsWith, rowsNamed}
 use Rattle.feed.specs.Import.{rowNumbers, importedList, ImportLent, importRefused, importAccepted, import, endNumber, importGave}
+use Rattle.feed.specs.LastRow.{lastHop, hopListed}
 use Rattle.ground.proofs.Slots.{length-written}
-use Rattle.feed.proofs.Importing.{rows-taken-refused, numbers-of-rows, imported-good, imported-length, imported-in-room}
-use Rattle.feed.proofs.Importing.{TakenFrom, imported-is-taken, taken-is-imported}
+use Rattle.feed.proofs.Importing.{rows-taken-replaced-refused, numbers-of-rows, imported-good, imported-length, imported-in-room}
+use Rattle.feed.proofs.Importing.{TakenFrom, listed-is-taken, taken-is-listed}
+use Rattle.feed.proofs.LastRow.{last-row-wins}
 use Rattle.feed.proofs.Outcome.{import-short, done-is-accepted, refused-is-short}
 
 -- past what is written a slice is as it was
@@ -64,16 +67,16 @@ module _ (feed : List ℕ) (l : ImportLent) {r : Imported} {keys hops report : L
   report-is : report ≡ written (rowNumbers room feed) (l .report)
   report-is = ap (λ o. o .report) accepted
 
-  -- demand 1: rows in are rows taken and rows refused, reason by reason
-  pub rows-are-taken-and-refused : c .rows
+  -- demand 1: rows in are rows taken, rows replaced and rows refused, reason by reason
+  pub rows-are-taken-replaced-refused : c .rows
       ≡ rowsWith rowTaken c
-      + (rowsWith rowShape c
-      + (rowsWith rowZeros c + (rowsWith rowRange c + (rowsWith rowHostBits c + (rowsWith rowRepeat c + rowsWith rowNoRoom c)))))
+      + (rowsWith rowReplaced c
+      + (rowsWith rowShape c + (rowsWith rowZeros c + (rowsWith rowRange c + (rowsWith rowHostBits c + rowsWith rowNoRoom c)))))
   unfolding rowsNamed
-  rows-are-taken-and-refused = summed ∙ rw add-zero
+  rows-are-taken-replaced-refused = summed ∙ rw add-zero
     where
-      summed : c .rows ≡ rowsWith rowTaken c + rowsNamed reasons c
-      summed = rw counts-are (rows-taken-refused room feed)
+      summed : c .rows ≡ rowsWith rowTaken c + (rowsWith rowReplaced c + rowsNamed refusals c)
+      summed = rw counts-are (rows-taken-replaced-refused room feed)
 
   numbers-are : c .rows ≡ length (rowNumbers room feed)
   unfolding countsOf
@@ -113,17 +116,25 @@ module _ (feed : List ℕ) (l : ImportLent) {r : Imported} {keys hops report : L
       and-both (ap (leb taken) same-room ∙ le-leb taken room taken-in-room)
       (ap goodRows left-is-imported ∙ parts-good _ (imported-good room feed))
 
-  -- the list has exactly the rows of the feed that were taken, each with its prefix and hop
-  pub left-is-taken : (x : Row) → Has x (rowsOf taken keys hops) → TakenFrom (listRoom (l .keys) (l .hops)) [] (rowsIn feed) x
-  left-is-taken x m = imported-is-taken room feed x (rw left-is-imported at m)
+  -- the list has exactly the prefixes of the rows of the feed that were taken
+  pub left-prefix-taken : (k : ℕ) → listed k (rowsOf taken keys hops) ≡ true
+      → TakenFrom (listRoom (l .keys) (l .hops)) [] (rowsIn feed) k
+  unfolding importedList
+  left-prefix-taken k e = listed-is-taken room k (rowsIn feed) (rw left-is-imported at e)
 
-  pub taken-is-left : (x : Row) → TakenFrom (listRoom (l .keys) (l .hops)) [] (rowsIn feed) x → Has x (rowsOf taken keys hops)
-  taken-is-left x t = rw left-is-imported (taken-is-imported room feed x t)
+  pub taken-prefix-left : (k : ℕ) → TakenFrom (listRoom (l .keys) (l .hops)) [] (rowsIn feed) k
+      → listed k (rowsOf taken keys hops) ≡ true
+  unfolding importedList
+  taken-prefix-left k t = rw left-is-imported (taken-is-listed room k (rowsIn feed) t)
 
   -- the report has each row's number; bytes past the rows and slots past the taken count stay unchanged
   pub report-has-numbers : take (c .rows) report ≡ rowNumbers (listRoom (l .keys) (l .hops)) feed
   unfolding written
   report-has-numbers = ap (take (c .rows)) report-is ∙ take-at (rowNumbers room feed) _ (c .rows) (sym numbers-are)
+
+  -- the list has for each prefix the hop of its last row that the report numbers 0 or 4
+  pub left-hop-is-last : (k : ℕ) → hopListed k (rowsOf taken keys hops) ≡ lastHop k (take (c .rows) report) (rowsIn feed)
+  left-hop-is-last k = rw (left-is-imported, report-has-numbers) (last-row-wins room feed k)
 
   pub report-past-rows : drop (c .rows) report ≡ drop (c .rows) (l .report)
   report-past-rows = rw report-is (past (rowNumbers room feed) (l .report) (c .rows) numbers-are)

@@ -19,7 +19,7 @@ use Rattle.feed.specs.declared.RowRead.{RowRead}
 use Rattle.feed.specs.declared.NextRow.the-variants.{Row, End}
 use Rattle.feed.specs.declared.Reader.{Reader}
 use Rattle.feed.specs.Rows.{rowsIn, rowLength}
-use Rattle.feed.specs.RowNumber.{rowTaken, rowRepeat, rowNoRoom}
+use Rattle.feed.specs.RowNumber.{rowTaken, rowReplaced, rowNoRoom}
 use Rattle.feed.specs.Reading.{Reading, good, bad, readRow, readingOf}
 use Rattle.feed.specs.Import.{rowNumber, rowNumbers}
 use Rattle.feed.specs.Pull.{Pulled, before, pull, pullsFrom, pulls, PulledBy}
@@ -114,8 +114,8 @@ module _ (room : ℕ) (list : List ListRow) where
   own-is-bad n (bad m) o e = ap bad e
   own-is-bad n (good k h) o e = absurd (go (listed k list) (leb room (length list)) e)
     where
-      go : (b c : Bool) → cond b rowRepeat (cond c rowNoRoom rowTaken) ≡ n → ⊥
-      go true c q = own o .not-repeat (sym q)
+      go : (b c : Bool) → cond b rowReplaced (cond c rowNoRoom rowTaken) ≡ n → ⊥
+      go true c q = own o .not-replaced (sym q)
       go false true q = own o .not-no-room (sym q)
       go false false q = own o .not-taken (sym q)
 

@@ -14,7 +14,7 @@ use Rattle.ground.proofs.Truth.{or-neither, not-false}
 use Rattle.cidr.specs.Prefix.{addresses, keyOf, network, lengthOf, hostBits, isPrefix}
 use Rattle.cidr.proofs.Prefix.{parts-prefix, network-key, length-key}
 use Rattle.feed.specs.declared.parse.Values.{Values}
-use Rattle.feed.specs.RowNumber.{rowTaken, rowShape, rowZeros, rowRange, rowHostBits, rowRepeat, rowNoRoom, rowNames}
+use Rattle.feed.specs.RowNumber.{rowTaken, rowShape, rowZeros, rowRange, rowHostBits, rowReplaced, rowNoRoom, rowNames}
 use Rattle.feed.specs.Reading.{Reading, good, bad, addressOf, outOfRange, hasHostBits, numbersFault, judgedNumbers}
 use Rattle.feed.specs.Reading.{hasZeroInFront, valuesOf, judged, readRow, fieldsOf, form}
 
@@ -78,14 +78,14 @@ pub data OwnFault : ℕ → Type 0 where
 pub record Own (n : ℕ) : Type 0 where
   pub not-taken : n ≡ rowTaken → ⊥
   pub in-table : n < length rowNames
-  pub not-repeat : n ≡ rowRepeat → ⊥
+  pub not-replaced : n ≡ rowReplaced → ⊥
   pub not-no-room : n ≡ rowNoRoom → ⊥
 
 pub own : {n : ℕ} → OwnFault n → Own n
-own shape = record { not-taken = λ e. omega arith; in-table = lit< tt; not-repeat = λ e. omega arith; not-no-room = λ e. omega arith }
-own zeros = record { not-taken = λ e. omega arith; in-table = lit< tt; not-repeat = λ e. omega arith; not-no-room = λ e. omega arith }
-own range = record { not-taken = λ e. omega arith; in-table = lit< tt; not-repeat = λ e. omega arith; not-no-room = λ e. omega arith }
-own host-bits = record { not-taken = λ e. omega arith; in-table = lit< tt; not-repeat = λ e. omega arith; not-no-room = λ e. omega arith }
+own shape = record { not-taken = λ e. omega arith; in-table = lit< tt; not-replaced = λ e. omega arith; not-no-room = λ e. omega arith }
+own zeros = record { not-taken = λ e. omega arith; in-table = lit< tt; not-replaced = λ e. omega arith; not-no-room = λ e. omega arith }
+own range = record { not-taken = λ e. omega arith; in-table = lit< tt; not-replaced = λ e. omega arith; not-no-room = λ e. omega arith }
+own host-bits = record { not-taken = λ e. omega arith; in-table = lit< tt; not-replaced = λ e. omega arith; not-no-room = λ e. omega arith }
 
 -- what a reading says
 abbrev pub Sound : Reading → Type 0

@@ -1,5 +1,6 @@
 -- Rule 3.7: the number of a row, each with its name. Rule 4.5: how many rows there are, and how many have each number.
--- A new row number is its constant, its line in `reasons`, and its check in the order of checks (`Reading`, `Import`).
+-- A new row number is its constant, its line in `otherNames`, its line in `refusals` if it is a reason to refuse, and its check in the
+-- order of checks (`Reading`, `Import`).
 -- Assumes nothing.
 use mathlib.Core.Bool.{Bool, true, false}
 use mathlib.Core.List.{List, [], _∷_, map}
@@ -22,8 +23,8 @@ rowRange = 2
 abbrev pub rowHostBits : ℕ
 rowHostBits = 3
 
-abbrev pub rowRepeat : ℕ
-rowRepeat = 4
+abbrev pub rowReplaced : ℕ
+rowReplaced = 4
 
 abbrev pub rowNoRoom : ℕ
 rowNoRoom = 5
@@ -39,20 +40,30 @@ pub record NamedRow : Type 0 where
 abbrev pub named : ℕ → String → NamedRow
 named n s = record { number = n; name = s }
 
--- the reasons to refuse a row, in the order of the program's lines
-abbrev pub reasons : List NamedRow
-reasons =
+-- the row numbers after taken, in the order of the program's lines
+abbrev pub otherNames : List NamedRow
+otherNames =
     named rowShape "shape"
     ∷ named rowZeros "zeros"
     ∷ named rowRange "range"
     ∷ named rowHostBits "hostbits"
-    ∷ named rowRepeat "repeat"
+    ∷ named rowReplaced "replaced"
     ∷ named rowNoRoom "noroom"
     ∷ []
 
 -- every row number
 abbrev pub rowNames : List NamedRow
-rowNames = named rowTaken "taken" ∷ reasons
+rowNames = named rowTaken "taken" ∷ otherNames
+
+-- the reasons to refuse a row: every row number but taken and replaced
+abbrev pub refusals : List NamedRow
+refusals =
+    named rowShape "shape"
+    ∷ named rowZeros "zeros"
+    ∷ named rowRange "range"
+    ∷ named rowHostBits "hostbits"
+    ∷ named rowNoRoom "noroom"
+    ∷ []
 
 abbrev pub countIf : Bool → ℕ → ℕ
 countIf true n = suc n

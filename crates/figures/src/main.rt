@@ -54,7 +54,7 @@ fn counts(number: u64, c: Counts) {
     item(c.of[feed::ZEROS as usize] as u64);
     item(c.of[feed::RANGE as usize] as u64);
     item(c.of[feed::HOST_BITS as usize] as u64);
-    item(c.of[feed::REPEAT as usize] as u64);
+    item(c.of[feed::REPLACED as usize] as u64);
     item(c.of[feed::NO_ROOM_LEFT as usize] as u64);
     print::text(b"\n");
 }
@@ -296,7 +296,7 @@ fn import_rooms() {
         4,
     );
     import(
-        b"repeats after no room",
+        b"replaced rows, and no room",
         b"1.0.0.0/8 1\n2.0.0.0/8 2\n2.0.0.0/8 3\n1.0.0.0/8 4\n2.0.0.0/9 5\n\n2.0.0.1/8 6\n",
         1,
         1,

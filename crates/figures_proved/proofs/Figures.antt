@@ -3,6 +3,7 @@
 use mathlib.Core.Path.{_≡_, refl}
 use mathlib.Core.Bool.{true}
 use mathlib.Core.List.{[], _∷_}
+use mathlib.Core.Option.{orElse}
 use native.Mathlib.Omega.{arith}
 use lib.Dec.{T}
 use lib.Count.{ones, onesIn}
@@ -21,6 +22,7 @@ use Rattle.feed.specs.Rows.{rowsIn, rowLength}
 use Rattle.feed.specs.Reading.{digits, afterDigits, fieldsOf, hasZeroInFront, valueFrom, inPlaces, valuesOf, outOfRange, hasHostBits, numbersFault, judgedNumbers, judged, readRow}
 use Rattle.feed.specs.RowNumber.{howMany, countsOf}
 use Rattle.feed.specs.Import.{rowNumber, listAfter, rowNumbersFrom, rowNumbers, listFrom, importedList, importChecks, import, importTally}
+use Rattle.feed.specs.LastRow.{hopFor, lastHop, hopListed}
 use Rattle.feed.specs.Pull.{pullOf, pull, pullsFrom, pulls}
 use Rattle.runs.specs.Build.{slotsLent, runRoom, buildChecks, buildOf, buildHalf}
 use Rattle.runs.specs.Pair.{pairIll, pairChecks}
@@ -43,7 +45,7 @@ unfolding allHold same firstFault stretch among turnsFrom size hostBits holds co
 marked-hold = tt
 
 pub corners-hold : T (allHold corners)
-unfolding lower rowLength runRoom buildChecks pairIll pairChecks badPrefix announceChecks announce withdrawChecks withdraw allHold same written rewritten insertedAt removedAt firstFault outcome stretch among turnsFrom halves halving size hostBits isPrefix holds covers every those rowsOf listRoom prefixes hopsGiven ascends ascending halfRows goodRows wellFormed halfFormed formed matching longer longest plain announced withdrawn lookupChecks halfChecks rowsIn digits afterDigits fieldsOf hasZeroInFront valueFrom inPlaces valuesOf outOfRange hasHostBits numbersFault judgedNumbers judged readRow rowNumber listAfter rowNumbersFrom rowNumbers listFrom importedList howMany countsOf importChecks import importTally pullOf pull pullsFrom pulls runBytes startAt hopAt inSlices runChecks inBytes width blockHop bit wordFrom wordsFor codeWords keptHops wordsOf basesFrom basesOf packedHopsOf blockOf onesTo pastPlace packedChecks covering relabelled firstHalf secondHalf splitChecks decimalBy decimal dottedText rowText textOf writeChecks lineOf nameLines countLines runLines ones onesIn isIn buildOf plainLookup halfLookup runLookup bytesChecks bytesLookup packedLookup split write lookupForC runLookupForC
+unfolding lower rowLength runRoom buildChecks pairIll pairChecks badPrefix announceChecks announce withdrawChecks withdraw allHold same written rewritten insertedAt removedAt firstFault outcome stretch among turnsFrom halves halving size hostBits isPrefix holds covers every those rowsOf listRoom prefixes hopsGiven ascends ascending halfRows goodRows wellFormed halfFormed formed matching longer longest plain announced withdrawn lookupChecks halfChecks rowsIn digits afterDigits fieldsOf hasZeroInFront valueFrom inPlaces valuesOf outOfRange hasHostBits numbersFault judgedNumbers judged readRow rowNumber listAfter rowNumbersFrom rowNumbers listFrom importedList orElse hopFor lastHop hopListed howMany countsOf importChecks import importTally pullOf pull pullsFrom pulls runBytes startAt hopAt inSlices runChecks inBytes width blockHop bit wordFrom wordsFor codeWords keptHops wordsOf basesFrom basesOf packedHopsOf blockOf onesTo pastPlace packedChecks covering relabelled firstHalf secondHalf splitChecks decimalBy decimal dottedText rowText textOf writeChecks lineOf nameLines countLines runLines ones onesIn isIn buildOf plainLookup halfLookup runLookup bytesChecks bytesLookup packedLookup split write lookupForC runLookupForC
 corners-hold = tt
 
 -- Rule 11.10: a half with label 0 is built. Its run table is over all addresses and so isn't computed; three run slots are enough for it.

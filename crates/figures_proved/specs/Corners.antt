@@ -19,6 +19,7 @@ use Rattle.feed.specs.Reading.{Reading, good, bad}
 use Rattle.feed.specs.declared.Counts.{Counts}
 use Rattle.feed.specs.RowNumber.{countsOf}
 use Rattle.feed.specs.Import.{rowNumbers, importedList, ImportLent, import, importTally}
+use Rattle.feed.specs.LastRow.{lastHop, hopListed}
 use Rattle.feed.specs.Pull.{pull, pulls}
 use Rattle.runs.specs.Table.{runsLent}
 use Rattle.runs.specs.Build.{slotsLent, build, buildHalf}
@@ -52,6 +53,11 @@ abbrev pub pulled : Option Reading → List ℕ
 pulled none = []
 pulled (some (good k h)) = 0 ∷ k ∷ h ∷ []
 pulled (some (bad n)) = n ∷ 0 ∷ 0 ∷ []
+
+-- a hop as a list, empty where there is none
+abbrev pub asList : Option ℕ → List ℕ
+asList none = []
+asList (some h) = h ∷ []
 
 -- all counts: the rows, and then by row number
 abbrev pub counts : Counts → List ℕ
@@ -162,6 +168,16 @@ corners =
     ∷ figure (keysOf (importedList 9 (bytes "10.0.0.0/8 7\n9.0.0.0/8 5\n10.0.0.0/16 6\n")))
     (prefix 9 0 0 0 8 ∷ prefix 10 0 0 0 8 ∷ prefix 10 0 0 0 16 ∷ [])
     ∷ figure (hopsOf (importedList 9 (bytes "10.0.0.0/8 7\n9.0.0.0/8 5\n10.0.0.0/16 6\n"))) (5 ∷ 7 ∷ 6 ∷ [])
+    -- Rules 4.2 and 4.3: a later row of a taken prefix gives it its hop, the last one wins, in a full list as well; a refused row gives none, and
+    -- other rows keep theirs.
+    ∷ figure (hopsOf (importedList 1024 fiveRows)) (9 ∷ [])
+    ∷ figure (hopsOf (importedList 9 (bytes "10.0.0.0/8 7\n9.0.0.0/8 5\n10.0.0.0/8 6\n10.0.0.0/8 8\n10.0.0.0/8 0\n10.0.0.0/8 04\n"))) (5 ∷ 8 ∷ [])
+    ∷ figure (hopsOf (importedList 1 (bytes "10.0.0.0/8 7\n11.0.0.0/8 6\n10.0.0.0/8 9\n11.0.0.0/8 5\n"))) (9 ∷ [])
+    ∷ figure (import (bytes "10.0.0.0/8 7\n10.0.0.0/8 9") (lent (77 ∷ 78 ∷ []) (79 ∷ 80 ∷ []) (81 ∷ 82 ∷ [])) .hops) (9 ∷ 80 ∷ [])
+    ∷ figure (asList (lastHop (prefix 10 0 0 0 8) (0 ∷ 5 ∷ 4 ∷ 2 ∷ []) (rowsIn (bytes "10.0.0.0/8 7\n11.0.0.0/8 6\n10.0.0.0/8 9\n10.0.0.0/8 0\n"))))
+    (9 ∷ [])
+    ∷ figure (asList (lastHop (prefix 11 0 0 0 8) (0 ∷ 5 ∷ []) (rowsIn (bytes "10.0.0.0/8 7\n11.0.0.0/8 6\n")))) []
+    ∷ figure (asList (hopListed (prefix 11 0 0 0 8) nested) ++ asList (hopListed (prefix 10 64 0 0 10) nested)) (2 ∷ [])
     ∷ figure (import (bytes "0.0.0.0/0 1") (lent (77 ∷ 78 ∷ []) (79 ∷ 80 ∷ []) (81 ∷ [])) .keys) (0 ∷ 78 ∷ [])
     -- Rules 4.4 and 4.7: a report one byte short is 12, and stays. Bytes behind the last row stay.
     ∷ one (import (bytes "\n\n") (lent [] [] (9 ∷ [])) .number) 12
@@ -230,9 +246,9 @@ corners =
     (2 ∷ 1 ∷ 0 ∷ 0 ∷ 0 ∷ 0 ∷ 0 ∷ 1 ∷ [])
     -- Rules 13.3 and 13.4: the lines that the program writes for them.
     ∷ figure (countLines (countsOf (rowNumbers 1024 fiveRows)))
-    (bytes "rows 5\ntaken 1\nshape 1\nzeros 0\nrange 1\nhostbits 1\nrepeat 1\nnoroom 0\n")
-    ∷ figure (runLines (0 ∷ dotted 10 0 0 0 ∷ dotted 11 0 0 0 ∷ []) (0 ∷ 7 ∷ 0 ∷ []))
-    (bytes "0.0.0.0 0\n10.0.0.0 7\n11.0.0.0 0\n")
+    (bytes "rows 5\ntaken 1\nshape 1\nzeros 0\nrange 1\nhostbits 1\nreplaced 1\nnoroom 0\n")
+    ∷ figure (runLines (0 ∷ dotted 10 0 0 0 ∷ dotted 11 0 0 0 ∷ []) (0 ∷ 9 ∷ 0 ∷ []))
+    (bytes "0.0.0.0 0\n10.0.0.0 9\n11.0.0.0 0\n")
     -- Rule 10.8: a smaller count leaves zeros up to the old one, and a larger one keeps what is beyond it.
     ∷ figure (rewritten (1 ∷ []) 3 (7 ∷ 7 ∷ 7 ∷ 7 ∷ [])) (1 ∷ 0 ∷ 0 ∷ 7 ∷ [])
     ∷ figure (rewritten (1 ∷ 2 ∷ []) 1 (7 ∷ 7 ∷ 7 ∷ 7 ∷ [])) (1 ∷ 2 ∷ 7 ∷ 7 ∷ [])

@@ -14,7 +14,7 @@ use Rattle.ground.proofs.Truth.{decided}
 use Rattle.feed.specs.declared.Counts.{Counts}
 use Rattle.feed.specs.declared.Imported.{Imported}
 use Rattle.feed.specs.Rows.{rowsIn}
-use Rattle.feed.specs.RowNumber.{rowTaken, rowShape, rowRange, rowHostBits, rowRepeat, rowNoRoom, rowZeros, countsOf, rowsWith}
+use Rattle.feed.specs.RowNumber.{rowTaken, rowShape, rowRange, rowHostBits, rowReplaced, rowNoRoom, rowZeros, countsOf, rowsWith}
 use Rattle.feed.specs.Import.{ImportLent, import, endNumber, importGave}
 use Rattle.feed.proofs.Outcome.{import-short, import-long}
 use Rattle.host.specs.declared.WhelkCounts.{WhelkCounts}
@@ -29,7 +29,7 @@ toC n c = record {
   shape = rowsWith rowShape c;
   range = rowsWith rowRange c;
   hostbits = rowsWith rowHostBits c;
-  repeat = rowsWith rowRepeat c;
+  replaced = rowsWith rowReplaced c;
   noroom = rowsWith rowNoRoom c;
   zeros = rowsWith rowZeros c;
 }

@@ -25,7 +25,7 @@ use Rattle.host.specs.declared.rows.WhelkRow.{WhelkRow}
 abbrev pub countsIn : WhelkCounts → Counts
 countsIn w = record {
   rows = w .rows;
-  of = w .taken ∷ w .shape ∷ w .range ∷ w .hostbits ∷ w .repeat ∷ w .noroom ∷ w .zeros ∷ [];
+  of = w .taken ∷ w .shape ∷ w .range ∷ w .hostbits ∷ w .replaced ∷ w .noroom ∷ w .zeros ∷ [];
 }
 
 -- Rule 7.10: what C gets from an import and the three slices at exit, as an import's outcome.

@@ -38,7 +38,7 @@ pub struct WhelkCounts {
     pub shape: usize,
     pub range: usize,
     pub hostbits: usize,
-    pub repeat: usize,
+    pub replaced: usize,
     pub noroom: usize,
     pub zeros: usize,
 }
@@ -75,7 +75,7 @@ pub extern "C" fn whelk_import(
         shape: c.of[feed::SHAPE as usize],
         range: c.of[feed::RANGE as usize],
         hostbits: c.of[feed::HOST_BITS as usize],
-        repeat: c.of[feed::REPEAT as usize],
+        replaced: c.of[feed::REPLACED as usize],
         noroom: c.of[feed::NO_ROOM_LEFT as usize],
         zeros: c.of[feed::ZEROS as usize],
     }

@@ -1,5 +1,5 @@
--- What the program writes for a feed is never longer than 45,178 bytes. A count is at most the rows, and so at most the 16,384 bytes of the
--- feed: five digits, which with the eight names make 100 bytes. 1,024 rows make at most 2,049 runs, and a run's line has at most 22 bytes:
+-- What the program writes for a feed is never longer than 45,180 bytes. A count is at most the rows, and so at most the 16,384 bytes of the
+-- feed: five digits, which with the eight names make 102 bytes. 1,024 rows make at most 2,049 runs, and a run's line has at most 22 bytes:
 -- 15 for the start, 5 for the hop, a space and an LF.
 -- Assumes nothing.
 use mathlib.Core.Path.{_≡_, refl, ap}
@@ -36,7 +36,7 @@ pub line-length : (name : List ℕ) (n : ℕ) → length (lineOf name n) ≡ len
 unfolding lineOf
 line-length name n = simp length-append (omega arith)
 
--- Counts of at most five digits: 44 bytes of names, and 7 for each of the eight lines.
+-- Counts of at most five digits: 46 bytes of names, and 7 for each of the eight lines.
 module _ (c : Counts) (rows : c .rows ≤ longestFeed) (of : (n : ℕ) → rowsWith n c ≤ c .rows) where
   count-line : (name : List ℕ) (n : ℕ) → n ≤ longestFeed → length (lineOf name n) ≤ length name + 7
   count-line name n l = omega (arith, line-length name n, digits-at-most 4 n (omega arith))
@@ -44,7 +44,7 @@ module _ (c : Counts) (rows : c .rows ≤ longestFeed) (of : (n : ℕ) → rowsW
   named-line : (name : List ℕ) (n : ℕ) → length (lineOf name (rowsWith n c)) ≤ length name + 7
   named-line name n = count-line name (rowsWith n c) (omega (arith, of n))
 
-  pub count-lines-at-most : length (countLines c) ≤ 100
+  pub count-lines-at-most : length (countLines c) ≤ 102
   unfolding countLines nameLines
   count-lines-at-most =
       simp length-append (omega (
@@ -55,7 +55,7 @@ module _ (c : Counts) (rows : c .rows ≤ longestFeed) (of : (n : ℕ) → rowsW
         named-line (bytes "zeros") 6,
         named-line (bytes "range") 2,
         named-line (bytes "hostbits") 3,
-        named-line (bytes "repeat") 4,
+        named-line (bytes "replaced") 4,
         named-line (bytes "noroom") 5,
       ))
 
@@ -95,7 +95,7 @@ module _ (feed : List ℕ) where
   rows-few l = omega (arith, numbers-of-rows programRoom feed, rows-at-most feed)
 
   pub answer-at-most : length feed ≤ longestFeed
-      → length (countLines counts ++ runLines (runStarts list) (runHops list)) ≤ 45178
+      → length (countLines counts ++ runLines (runStarts list) (runHops list)) ≤ 45180
   answer-at-most l =
       let few = rows-few l in
       let fit = counts-fit (rowNumbers programRoom feed) 0 (omega arith) (omega arith) in
@@ -103,12 +103,12 @@ module _ (feed : List ℕ) where
       let table = table-lines-at-most list (λ r m. imported-hop-fits programRoom feed r m) in
       omega (arith, length-append (countLines counts) (runLines (runStarts list) (runHops list)), imported-in-room programRoom feed)
 
-  pub program-fits : length (programText feed) ≤ 45178
+  pub program-fits : length (programText feed) ≤ 45180
   unfolding programText
   program-fits = go (ltb longestFeed (length feed)) refl
     where
       go : (b : Bool) → ltb longestFeed (length feed) ≡ b
-          → length (cond b (bytes "feed too long\n") (countLines counts ++ runLines (runStarts list) (runHops list))) ≤ 45178
+          → length (cond b (bytes "feed too long\n") (countLines counts ++ runLines (runStarts list) (runHops list))) ≤ 45180
       go true e = omega arith
       go false e = answer-at-most (ltb-false longestFeed (length feed) e)
 

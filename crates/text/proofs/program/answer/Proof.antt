@@ -1,5 +1,5 @@
 -- `text::program::answer` meets its contract: the counts of the import, and the run table of the imported list behind them. The whole has
--- room, since the buffer has 45,178 bytes.
+-- room, since the buffer has 45,180 bytes.
 -- Assumes nothing.
 use native.Mathlib.Omega.{arith}
 use Rattle.feed.specs.RowNumber.{countsOf}

@@ -1,7 +1,7 @@
--- `text::program::counts` meets its contract: the line of all rows, that of the taken ones, and those of the refused ones.
+-- `text::program::counts` meets its contract: the line of all rows, that of the taken ones, and those of the other row numbers.
 -- Assumes nothing.
 use native.Mathlib.Omega.{arith}
-use Rattle.feed.specs.RowNumber.{named, rowTaken, reasons, rowNames}
+use Rattle.feed.specs.RowNumber.{named, rowTaken, otherNames, rowNames}
 use Rattle.text.specs.Program.{nameLines, countLines}
 use Rattle.text.specs.Inside.Putting.{Fits}
 use Rattle.text.proofs.Putting.{first-fits, rest-fits, put-then}
@@ -16,13 +16,13 @@ at-1 c = c .before .before .before .before
 abbrev at-2 : tie.After-named → tie.After-line
 at-2 c = c .before .before .before .before .before
 
--- the names have room behind all rows, and the reasons behind the taken ones
+-- the names have room behind all rows, and the others behind taken
 names-fit : (c : tie.After-line) → Fits (c .line .result) (nameLines rowNames (at-1 c .args .c)) (c .line .last .0)
 unfolding countLines
 names-fit c = rest-fits (nameLines rowNames (at-1 c .args .c)) (at-1 c .pre) (c .line .ensures)
 
-reasons-fit : (c : tie.After-named) → Fits (c .named .result) (nameLines reasons (at-1 (at-2 c) .args .c)) (c .named .last .0)
-reasons-fit c = rest-names-fit (named rowTaken "taken") reasons (at-1 (at-2 c) .args .c) (names-fit (at-2 c)) (c .named .ensures)
+others-fit : (c : tie.After-named) → Fits (c .named .result) (nameLines otherNames (at-1 (at-2 c) .args .c)) (c .named .last .0)
+others-fit c = rest-names-fit (named rowTaken "taken") otherNames (at-1 (at-2 c) .args .c) (names-fit (at-2 c)) (c .named .ensures)
 
 slice-aggregate-line : tie.Need-slice-aggregate-line
 slice-aggregate-line c = search needs
@@ -37,10 +37,10 @@ slice-aggregate-named c = search needs
 named-requires : tie.Need-named-requires
 named-requires c κs =
     let mid = c .before .before .before .before in
-    (omega arith, first-name-fits (named rowTaken "taken") reasons (at-1 mid .args .c) (names-fit mid))
+    (omega arith, first-name-fits (named rowTaken "taken") otherNames (at-1 mid .args .c) (names-fit mid))
 
-refused-requires : tie.Need-refused-requires
-refused-requires c κs = reasons-fit (c .before .before .before)
+others-requires : tie.Need-others-requires
+others-requires c κs = others-fit (c .before .before .before)
 
 same-length : tie.Need-same-length
 same-length c = search needs
@@ -52,7 +52,7 @@ returns c =
     let c1 = at-2 c2 in
     let n = at-1 c1 .args .c in
     put-then (nameLines rowNames n) (at-1 c1 .pre) (c1 .line .ensures)
-    (put-names (named rowTaken "taken") reasons n (names-fit c1) (c2 .named .ensures) (c .before .before .refused .ensures))
+    (put-names (named rowTaken "taken") otherNames n (names-fit c1) (c2 .named .ensures) (c .before .before .others .ensures))
 
 pub counts-spec : {M : Type 1} → statement M
 counts-spec =
@@ -62,6 +62,6 @@ counts-spec =
     line-requires
     slice-aggregate-named
     named-requires
-    refused-requires
+    others-requires
     same-length
     returns)

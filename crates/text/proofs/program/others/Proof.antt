@@ -1,21 +1,21 @@
--- `text::program::refused` meets its contract: the lines of the six reasons, one behind the other.
+-- `text::program::others` meets its contract: the lines of the six row numbers behind taken, one behind the other.
 -- Assumes nothing.
 use mathlib.Core.List.{List, [], _∷_}
 use native.Mathlib.Omega.{arith}
-use Rattle.feed.specs.RowNumber.{NamedRow, named, rowShape, rowZeros, rowRange, rowHostBits, rowRepeat, rowNoRoom}
+use Rattle.feed.specs.RowNumber.{NamedRow, named, rowShape, rowZeros, rowRange, rowHostBits, rowReplaced, rowNoRoom}
 use Rattle.text.specs.Program.{nameLines}
 use Rattle.text.specs.Inside.Putting.{Fits}
 use Rattle.text.proofs.ProgramLines.{first-name-fits, rest-names-fit, put-names, put-no-names}
 use borrow.Author.Needs.{needs}
-use Rattle.text.proofs.program.refused.Statement.{statement}
-use Rattle.text.proofs.program.refused.Tie as tie
+use Rattle.text.proofs.program.others.Statement.{statement}
+use Rattle.text.proofs.program.others.Tie as tie
 
--- the reasons from the second on, from the third on and so on
+-- the row numbers from the second on, from the third on and so on
 abbrev sixth : List NamedRow
 sixth = named rowNoRoom "noroom" ∷ []
 
 abbrev fifth : List NamedRow
-fifth = named rowRepeat "repeat" ∷ sixth
+fifth = named rowReplaced "replaced" ∷ sixth
 
 abbrev fourth : List NamedRow
 fourth = named rowHostBits "hostbits" ∷ fifth
@@ -58,7 +58,7 @@ fits-5 : (c : tie.After-named4) → Fits (c .named4 .result) (nameLines fifth (a
 fits-5 c = rest-names-fit (named rowHostBits "hostbits") fifth (at-1 (at-2 (at-3 (at-4 c))) .args .c) (fits-4 (at-4 c)) (c .named4 .ensures)
 
 fits-6 : (c : tie.After-named5) → Fits (c .named5 .result) (nameLines sixth (at-1 (at-2 (at-3 (at-4 (at-5 c)))) .args .c)) (c .named5 .last .0)
-fits-6 c = rest-names-fit (named rowRepeat "repeat") sixth (at-1 (at-2 (at-3 (at-4 (at-5 c)))) .args .c) (fits-5 (at-5 c)) (c .named5 .ensures)
+fits-6 c = rest-names-fit (named rowReplaced "replaced") sixth (at-1 (at-2 (at-3 (at-4 (at-5 c)))) .args .c) (fits-5 (at-5 c)) (c .named5 .ensures)
 
 slice-aggregate-named : tie.Need-slice-aggregate-named
 slice-aggregate-named c = search needs
@@ -98,7 +98,7 @@ slice-aggregate-named-5 c = search needs
 named-requires-5 : tie.Need-named-requires-5
 named-requires-5 c κs =
     let mid = c .before .before .before .before in
-    (omega arith, first-name-fits (named rowRepeat "repeat") sixth (at-1 (at-2 (at-3 (at-4 mid))) .args .c) (fits-5 mid))
+    (omega arith, first-name-fits (named rowReplaced "replaced") sixth (at-1 (at-2 (at-3 (at-4 mid))) .args .c) (fits-5 mid))
 
 slice-aggregate-named-6 : tie.Need-slice-aggregate-named-6
 slice-aggregate-named-6 c = search needs
@@ -124,11 +124,11 @@ returns c =
     (put-names (named rowZeros "zeros") third n (fits-2 c1) (c2 .named2 .ensures)
     (put-names (named rowRange "range") fourth n (fits-3 c2) (c3 .named3 .ensures)
     (put-names (named rowHostBits "hostbits") fifth n (fits-4 c3) (c4 .named4 .ensures)
-    (put-names (named rowRepeat "repeat") sixth n (fits-5 c4) (c5 .named5 .ensures)
+    (put-names (named rowReplaced "replaced") sixth n (fits-5 c4) (c5 .named5 .ensures)
     (put-names (named rowNoRoom "noroom") [] n (fits-6 c5) (c6 .named6 .ensures) (put-no-names n _ _))))))
 
-pub refused-spec : {M : Type 1} → statement M
-refused-spec =
+pub others-spec : {M : Type 1} → statement M
+others-spec =
     tie.close
     (tie.spec
     slice-aggregate-named
