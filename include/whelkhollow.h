@@ -402,8 +402,10 @@ struct whelk_edit whelk_withdraw(uint32_t network, uint32_t length, size_t count
 /* A split makes two halves of a list, for two cores that each look up in one, so that each has a smaller table; a k near count / 2 is usual. A
    half is a list with labels in place of hops, and label 0 is no fault; all else that makes a list ill-formed makes a half so. The first half
    is the list's first k rows: hand in count k with the list's own keys and hops. The second is what whelk_split leaves. Only
-   whelk_half_lookup and whelk_build_half are for halves: for other calls label 0 is a fault. After an edit of the list, split again. At every address, the label that the one gives XOR the label that the other gives
-   is the list's hop, or 0 where nothing matches. That is so by whelk_half_lookup, and by run lookup in the tables that whelk_build_half leaves. */
+   whelk_half_lookup and whelk_build_half are for halves: for other calls label 0 is a fault. After an edit of the list, split again. At every
+   address, the label that the one gives XOR the label that the other gives is the list's hop, or 0 where nothing matches. That is so by
+   whelk_half_lookup, and by run lookup in the tables that whelk_build_half leaves. The last address that such a run lookup leaves is that of its
+   half's label: the list's hop holds up to the lesser of the two, and perhaps further. */
 
 /* Splits a list after its first k rows.
    Lend the list, and count - k + 1 slots in half_keys and in labels; it takes exactly so many.

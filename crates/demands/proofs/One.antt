@@ -1,8 +1,8 @@
 -- Demand 1: any feed, list, table or address may be handed to any entry. A refused call says which fault it met first, by number, and
 -- changes no lent memory. Import carries on past a bad row: every row gets its number, and rows in = rows taken + rows replaced + rows
 -- refused, reason by reason. Each answer here is any that keeps its entry's contract. An entry of the library that isn't here refuses
--- nothing; the exports give the same outcomes (host, `Exports`), but that run lookups are also lent memory for the last address: a number
--- over slices, which 11 leaves (`probedForC`), and bytes over run bytes, which have a field here.
+-- nothing; the exports give the same outcomes (host, `Exports`), but that run lookups are also lent memory for the last address, a number
+-- over slices and bytes over run bytes, and these two have fields here.
 -- Its definitions: `firstFault`, `checkOrder` (ground, `Numbers`), and of each entry its outcome, its checks and its `Gave`.
 -- Assumes nothing.
 use mathlib.Core.Path.{_≡_, refl, sym, ap, _∙_}
@@ -12,7 +12,10 @@ use Prim.Native.Nat.{ℕ, _+_, _*_, _/_, _<_}
 use native.Mathlib.Omega.{arith}
 use lib.ListN.{length, getD, take}
 use lib.Dec.{eqb}
+use borrow.Author.Tests.{ne-eqb}
 use Rattle.ground.specs.Numbers.{firstFault, outcome, done}
+use Rattle.ground.proofs.Truth.{cond-false}
+use Rattle.ground.proofs.Numbers.{outcome-refused}
 use Rattle.routes.specs.declared.Looked.{Looked}
 use Rattle.routes.specs.Row.{ListLent, listRoom}
 use Rattle.routes.specs.Lookup.{lookedUp, LookupOutcome, lookupGave, plainLookup, lookupChecks, halfLookup, halfChecks}
@@ -46,6 +49,7 @@ use Rattle.edit.specs.Edit.{Edited, editRefused, editGave, announce, announceCh
 use Rattle.split.specs.declared.Parted.{Parted}
 use Rattle.split.specs.Split.{SplitLent, SplitOutcome, splitInto, splitGave, split, splitChecks}
 use Rattle.host.specs.Exports.{lookupForC, HeldForC, heldGaveC, heldForC, heldChecks}
+use Rattle.host.specs.Exports.{runLookupForC, probedGaveC, probedForC}
 use Rattle.demands.proofs.Orders.{InOrder, orders}
 use Rattle.demands.proofs.First.{First, first-of}
 
@@ -99,6 +103,17 @@ module _ (bytes : List ℕ) (a : ℕ) (small : (i : ℕ) → getD bytes i 0 < 25
       first-of (λ (o : HeldForC). o .answer / 65536) _ _ _ (λ n. omega arith) (omega (arith, hop-below)) (orders .held bytes last)
       (heldGaveC r left)
 
+-- a run lookup over slices that is refused: what C gets, and the lent number as it was
+probed-left : (t : RunsLent) (a last r left : ℕ) → probedGaveC r left ≡ probedForC (runLookup t a) last
+    → (firstFault (runChecks t) ≡ done → ⊥)
+    → probedGaveC r left ≡ probedGaveC (runLookupForC (probed (firstFault (runChecks t)) 0 0 0)) last
+unfolding probedForC runLookup
+probed-left t a last r left e fault =
+    let n = firstFault (runChecks t) in
+    e
+    ∙ rw (outcome-refused (runChecks t) (λ m. probed m 0 0 0) _ n refl fault)
+    (ap (probedGaveC (runLookupForC (probed n 0 0 0))) (cond-false _ _ (ne-eqb n done fault)))
+
 pub record One : Type 0 where
   pub plain-lookup : (l : ListLent) (a : ℕ) (r : Looked) → lookupGave r ≡ plainLookup l a
       → First looked (lookupChecks l) (λ n. lookedUp n 0) (lookupGave r)
@@ -118,6 +133,9 @@ pub record One : Type 0 where
   pub bytes-lookup-for-c : (bytes : List ℕ) (a : ℕ) → ((i : ℕ) → getD bytes i 0 < 256) → (last : List ℕ) (r : ℕ) (left : List ℕ)
       → heldGaveC r left ≡ heldForC bytes a last
       → First (λ o. o .answer / 65536) (heldChecks bytes last) (λ n. heldGaveC (lookupForC (lookedUp n 0)) last) (heldGaveC r left)
+  pub run-lookup-for-c : (t : RunsLent) (a last r left : ℕ) → probedGaveC r left ≡ probedForC (runLookup t a) last
+      → (firstFault (runChecks t) ≡ done → ⊥)
+      → probedGaveC r left ≡ probedGaveC (runLookupForC (probed (firstFault (runChecks t)) 0 0 0)) last
   pub packs : (q : ℕ) (p : Pair) (l : PackLent) (r : Packing) (words bases hops : List ℕ) → packGave r words bases hops ≡ pack q p l
       → First (λ o. o .number) (packChecks q p l) (packRefused l) (packGave r words bases hops)
   pub packed-lookup : (s : SegmentLent) (a : ℕ) (r : PackedHop) → packedGave r ≡ packedLookup s a
@@ -148,6 +166,7 @@ refusals = record {
   bytes-lookup = λ bytes a r.
       first-of (λ (o : BytesLookupOutcome). o .number) _ _ _ (λ n. refl) refl (orders .inBytes bytes) (bytesLookupGave r);
   bytes-lookup-for-c = held-first;
+  run-lookup-for-c = probed-left;
   packs = λ q p l r words bases hops.
       first-of (λ (o : PackOutcome). o .number) _ _ _ (λ n. refl) refl (orders .pack q p l) (packGave r words bases hops);
   packed-lookup = λ s a r. first-of looked _ _ _ (λ n. refl) refl (orders .packed s a) (packedGave r);

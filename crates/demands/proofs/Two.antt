@@ -9,8 +9,9 @@
 use mathlib.Core.Path.{_≡_, refl, sym, ap, _∙_}
 use mathlib.Core.Logic.{_⊎_, inl, inr, ⊎-elim}
 use mathlib.Core.Bool.{true, false}
-use mathlib.Core.List.{List}
+use mathlib.Core.List.{List, _++_}
 use Prim.Native.Nat.{ℕ, _/_, _≤_, _<_}
+use native.Mathlib.Omega.{arith}
 use lib.ListN.{length, getD, take}
 use Rattle.ground.specs.Numbers.{done}
 use Rattle.ground.specs.Slots.{written}
@@ -29,7 +30,7 @@ use Rattle.runs.specs.declared.Built.the-variants.{Runs}
 use Rattle.runs.specs.declared.Probed.{Probed}
 use Rattle.runs.specs.declared.Held.{Held}
 use Rattle.runs.specs.Table.{runsLent, runStarts, runHops}
-use Rattle.runs.specs.Bytes.{runBytes}
+use Rattle.runs.specs.Bytes.{runBytes, startAt}
 use Rattle.runs.specs.Build.{SlotsLent, BuildOutcome, built, buildGave, build, buildOf, buildChecks}
 use Rattle.runs.specs.Lookup.{runLookupGave, runLookup, BytesLookupOutcome, bytesLookupGave, bytesLookup}
 use Rattle.runs.specs.Pair.{Pair, listOf}
@@ -47,6 +48,7 @@ use Rattle.text.specs.Text.{writeGave, write}
 use Rattle.text.proofs.WriteThenImport.{ReadBackIn, write-then-import}
 use Rattle.feed.specs.declared.Imported.{Imported}
 use Rattle.feed.specs.Import.{ImportLent, importGave, import}
+use Rattle.host.specs.Exports.{addressBytes}
 
 -- an accepted plain lookup gives the hop of the longest listed prefix that holds the address, or 0 where none does
 module _ (l : ListLent) (a : ℕ) (r : Looked) (e : lookupGave r ≡ plainLookup l a) (d : lookupGave r .number ≡ done) where
@@ -111,6 +113,11 @@ module _ (l : ListLent) (t : SlotsLent) {n : ℕ} {starts hops : List ℕ} (b : 
     run-bytes-hold =
         rw (ap (λ (o : BytesLookupOutcome). o .last) in-table)
         (holds-as (λ b. ap (λ (o : LookupOutcome). o .hop) (plain-accepted l b well)) (bytes-hold-until (rowsLent l) a below))
+
+-- the four bytes in which C gets the last address, read as run bytes give a start, are that address
+pub last-reads-back : (last : ℕ) (rest : List ℕ) → startAt (addressBytes last ++ rest) 0 ≡ last
+unfolding startAt
+last-reads-back last rest = omega arith
 
 -- packed lookup in what an accepted packing left gives the plain answer, at every address of the segment
 pub packed-segment-says : (q : ℕ) (p : Pair) (l : PackLent) {w n m : ℕ} {words bases hops : List ℕ}
