@@ -7,9 +7,9 @@
 
 #include "whelkhollow.h"
 
-uint32_t c_run_lookup(const uint8_t *bytes, size_t length, uint32_t address);
+uint32_t c_run_lookup(const uint8_t *bytes, size_t length, uint32_t address, uint8_t *last, size_t last_length);
 uint64_t c_run_lookup_slices(size_t n, const uint32_t *starts, size_t starts_length, const uint16_t *hops, size_t hops_length,
-                             uint32_t address);
+                             uint32_t address, uint32_t *last);
 uint64_t c_build(size_t count, const uint64_t *keys, size_t keys_length, const uint16_t *hops, size_t hops_length, uint32_t *starts,
                  size_t starts_length, uint16_t *run_hops, size_t run_hops_length);
 struct whelk_counts c_import(const uint8_t *feed, size_t feed_length, uint64_t *keys, size_t keys_length, uint16_t *hops, size_t hops_length,

@@ -87,6 +87,7 @@ static void *forward(void *argument)
     struct core *c = argument;
     const struct table *t = c->table;
     cpu_set_t here;
+    uint32_t last;
     size_t i;
     CPU_ZERO(&here);
     CPU_SET(c->number, &here);
@@ -94,7 +95,7 @@ static void *forward(void *argument)
     pthread_barrier_wait(&all_begin);
     c->began = seconds();
     for (i = c->from; i < c->to; i++)
-        c->labels[i] = (uint16_t)whelk_lookup_hop(whelk_run_lookup_slices(t->runs, t->starts, t->runs, t->labels, t->runs, addresses[i]));
+        c->labels[i] = (uint16_t)whelk_lookup_hop(whelk_run_lookup_slices(t->runs, t->starts, t->runs, t->labels, t->runs, addresses[i], &last));
     if (xored) {
         size_t first = c == cores ? 0 : LOOKUPS / 2;
         pthread_barrier_wait(&both_found);
@@ -138,9 +139,11 @@ static double run(int threads, int split)
 static void three_ways(const char *inputs)
 {
     double one[ROUNDS], split[ROUNDS], shared[ROUNDS], a, b, c;
+    uint32_t last;
     size_t i;
     for (i = 0; i < LOOKUPS; i++)
-        right[i] = (uint16_t)whelk_lookup_hop(whelk_run_lookup_slices(whole.runs, whole.starts, whole.runs, whole.labels, whole.runs, addresses[i]));
+        right[i] = (uint16_t)whelk_lookup_hop(
+            whelk_run_lookup_slices(whole.runs, whole.starts, whole.runs, whole.labels, whole.runs, addresses[i], &last));
     run(1, 0);
     run(2, 1);
     for (i = 0; i < ROUNDS; i++) {

@@ -2,7 +2,8 @@
    to link, and docs/RULES.md has all rules.
 
    Any values may be handed in: a call answers, or it refuses with a number and writes nothing. The caller sees to this:
-   - Each pointer parameter but `tally` is followed by the length of its memory, counted in elements. The memory is aligned for them.
+   - Each pointer parameter but `tally`, and `last` of whelk_run_lookup_slices, is followed by the length of its memory, counted in elements. The
+     memory is aligned for them.
    - A pointer isn't null, even where the length is 0. `malloc(0)` and an empty `std::vector` may give null: hand in the address of any object
      instead. Test for null before the call; behind it the compiler may leave the test out.
    - Memory that a call writes overlaps nothing else that the call is lent.
@@ -266,7 +267,7 @@ size_t whelk_pair_check(size_t count, const uint64_t *keys, size_t keys_length, 
                         const uint32_t *starts, size_t starts_length, const uint16_t *run_hops, size_t run_hops_length)
     WHELK_CALL WHELK_READS(2, 3) WHELK_READS(4, 5) WHELK_READS(7, 8) WHELK_READS(9, 10);
 
-/* The parts of what a lookup returned: its number, the hop or the label, and of whelk_run_lookup_slices alone how many starts were read. */
+/* The parts of what a lookup returned: its number, the hop or the label, and of whelk_run_lookup_slices alone how many probes the halving made. */
 static inline unsigned whelk_lookup_number(uint64_t found)
 {
     return WHELK_CAST(unsigned, found >> 16 & 65535u);
@@ -284,20 +285,31 @@ static inline unsigned whelk_lookup_probes(uint64_t found)
 
 /* Looks an address up in the first `runs` runs of a run table, by halving. The table is not checked: in one that no build left, the hop is that
    of the run which halving finds.
-   Lend the table as a build or an edit left it.
+   Lend the table as a build or an edit left it, and a number for the last address.
    Returns a number, a hop and the probes, for whelk_lookup_number, whelk_lookup_hop and whelk_lookup_probes. The number is 0, or 11 if `runs` is
    0 or above one of the lengths. Number 0 with hop 0 says that nothing matches. (It is 4,294,967,296 x probes + 65,536 x number + hop.)
-   Leaves all memory as it is. */
+   Leaves in *last the last address of the run found: the hop holds from the address up to it, and the address behind it, if there is one, has
+   another hop. So a cache needn't ask again before, as long as the table stays the same: after an edit, a build or a swap it has to. *last is one
+   less than the start of the run behind it in the table, or 255.255.255.255 for the last run, and in a table that no build left it means no more
+   than that. On 11 *last stays as it was. */
 uint64_t whelk_run_lookup_slices(size_t runs, const uint32_t *starts, size_t starts_length, const uint16_t *run_hops,
-                                 size_t run_hops_length, uint32_t address) WHELK_CALL WHELK_READS(2, 3) WHELK_READS(4, 5);
+                                 size_t run_hops_length, uint32_t address, uint32_t *last) WHELK_CALL WHELK_READS(2, 3) WHELK_READS(4, 5);
+
+/* The address in 4 bytes, high byte first, as whelk_run_lookup leaves it. */
+static inline uint32_t whelk_address_of(const uint8_t *bytes)
+{
+    return WHELK_CAST(uint32_t, bytes[0]) << 24 | WHELK_CAST(uint32_t, bytes[1]) << 16 | WHELK_CAST(uint32_t, bytes[2]) << 8 | bytes[3];
+}
 
 /* Looks an address up in run bytes, by the same halving. They are not what a build leaves: a run has 6 bytes, 4 of its start and 2 of its hop,
    high byte first, and the host writes them from a built table.
-   Lend the bytes.
-   Returns a number and a hop, for whelk_lookup_number and whelk_lookup_hop. The number is 0, or 11 if the length is 0 or 6 doesn't divide it.
-   Number 0 with hop 0 says that nothing matches. (It is 65,536 x number + hop.)
-   Leaves all memory as it is. */
-uint32_t whelk_run_lookup(const uint8_t *bytes, size_t length, uint32_t address) WHELK_CALL WHELK_READS(1, 2);
+   Lend the bytes, and 4 bytes for the last address.
+   Returns a number and a hop, for whelk_lookup_number and whelk_lookup_hop. The number is 0, or 11 if the length is 0 or 6 doesn't divide it, or 13
+   if last_length is less than 4. Number 0 with hop 0 says that nothing matches. (It is 65,536 x number + hop.)
+   Leaves in the first 4 bytes of last the last address of the run found, high byte first, for whelk_address_of; it means what it means in
+   whelk_run_lookup_slices. Bytes past them stay as they were, and on 11 and 13 all of them. */
+uint32_t whelk_run_lookup(const uint8_t *bytes, size_t length, uint32_t address, uint8_t *last, size_t last_length)
+    WHELK_CALL WHELK_READS(1, 2) WHELK_FILLS(4, 5);
 
 /* Looks an address up in a list: the hop of the longest listed prefix that holds it, or 0. Time: linear in the list, which it checks. To forward
    by, build a run table.
@@ -390,8 +402,10 @@ struct whelk_edit whelk_withdraw(uint32_t network, uint32_t length, size_t count
 /* A split makes two halves of a list, for two cores that each look up in one, so that each has a smaller table; a k near count / 2 is usual. A
    half is a list with labels in place of hops, and label 0 is no fault; all else that makes a list ill-formed makes a half so. The first half
    is the list's first k rows: hand in count k with the list's own keys and hops. The second is what whelk_split leaves. Only
-   whelk_half_lookup and whelk_build_half are for halves: for other calls label 0 is a fault. After an edit of the list, split again. At every address, the label that the one gives XOR the label that the other gives
-   is the list's hop, or 0 where nothing matches. That is so by whelk_half_lookup, and by run lookup in the tables that whelk_build_half leaves. */
+   whelk_half_lookup and whelk_build_half are for halves: for other calls label 0 is a fault. After an edit of the list, split again. At every
+   address, the label that the one gives XOR the label that the other gives is the list's hop, or 0 where nothing matches. That is so by
+   whelk_half_lookup, and by run lookup in the tables that whelk_build_half leaves. The last address that such a run lookup leaves is that of its
+   half's label: the list's hop holds up to the lesser of the two, and perhaps further. */
 
 /* Splits a list after its first k rows.
    Lend the list, and count - k + 1 slots in half_keys and in labels; it takes exactly so many.

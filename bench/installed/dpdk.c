@@ -55,8 +55,10 @@ static inline void fib_by(unsigned burst)
     }
 }
 
-static void slices(void) OVER_ADDRESSES((uint32_t)whelk_run_lookup_slices(runs, starts, runs, run_hops, runs, a))
-static void in_bytes(void) OVER_ADDRESSES(whelk_run_lookup(bytes, 6 * runs, a))
+static uint32_t last;
+static uint8_t last_bytes[4];
+static void slices(void) OVER_ADDRESSES((uint32_t)whelk_run_lookup_slices(runs, starts, runs, run_hops, runs, a, &last))
+static void in_bytes(void) OVER_ADDRESSES(whelk_run_lookup(bytes, 6 * runs, a, last_bytes, 4))
 static void in_packed(void) OVER_ADDRESSES(of_packed(a))
 static void in_lpm(void) OVER_ADDRESSES(of_lpm(a))
 static void in_fib(void) { fib_by(1); }

@@ -260,8 +260,9 @@ static void run_lookups(void)
             /* in three slots more the starts are all FILL, above every address here */
             int ill = n == 0 || n > starts || n > rhops;
             lend_runs(starts, rhops);
-            uint64_t found = whelk_run_lookup_slices(n, SLICE(STARTS), SLICE(RUN_HOPS), 0x0a400001);
-            call("whelk_run_lookup_slices", whelk_lookup_number(found) == (ill ? 11 : 0) && runs_stay() &&
+            uint32_t last = 99;
+            uint64_t found = whelk_run_lookup_slices(n, SLICE(STARTS), SLICE(RUN_HOPS), 0x0a400001, &last);
+            call("whelk_run_lookup_slices", whelk_lookup_number(found) == (ill ? 11 : 0) && runs_stay() && last == (ill ? 99 : n == 1 ? 0xffffffff : run_starts[3] - 1) &&
                                                  whelk_lookup_hop(found) == (ill ? 0 : n == 1 ? 1 : 9) &&
                                                  (ill ? whelk_lookup_probes(found) == 0 : (size_t)1 << whelk_lookup_probes(found) < 4 * n));
         }
@@ -270,11 +271,18 @@ static void run_lookups(void)
         bytes[6 * i + 4] = 0;
         bytes[6 * i + 5] = (uint8_t)run_hops[i];
     }
-    for (size_t length = 0; length <= sizeof bytes; length++) {
-        lend(OUT_A, length, 1, bytes, length);
-        uint32_t hop = length == 0 || length % 6 ? 11 * 65536 : length == 6 ? 1 : length == 12 ? 7 : 9;
-        call("whelk_run_lookup", whelk_run_lookup(SLICE(OUT_A), 0x0a400001) == hop && stays(OUT_A));
-    }
+    /* the last address of the first, second or third run where it is the last, and of the third where others follow */
+    uint8_t last[4][4] = {{255, 255, 255, 255}, {255, 255, 255, 255}, {255, 255, 255, 255}};
+    for (int b = 0; b < 4; b++) last[3][b] = (uint8_t)((run_starts[3] - 1) >> (24 - 8 * b));
+    for (size_t length = 0; length <= sizeof bytes; length++)
+        for (size_t room = 0; room <= 6; room++) {
+            lend(OUT_A, length, 1, bytes, length);
+            lend(OUT_B, room, 1, NULL, 0);
+            int ill = length == 0 || length % 6;
+            uint32_t hop = ill ? 11 * 65536 : room < 4 ? 13 * 65536 : length == 6 ? 1 : length == 12 ? 7 : 9;
+            call("whelk_run_lookup", whelk_run_lookup(SLICE(OUT_A), 0x0a400001, SLICE(OUT_B)) == hop && stays(OUT_A) &&
+                                          left(OUT_B, last[length == 6 ? 0 : length == 12 ? 1 : length == 18 ? 2 : 3], ill || room < 4 ? 0 : 4));
+        }
 }
 
 /* Segment 10.64 has no prefix longer than 16: width 0, one word 0x8000, base 0, one hop. */

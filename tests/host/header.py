@@ -22,13 +22,14 @@ LANGUAGES = [
 ]
 # what a function's body does, and the warning that it gets, if any
 BODIES = [
-    ("uint8_t b[6] = {0}; return whelk_lookup_hop(whelk_run_lookup(b, 6, 0));", None),
+    ("uint8_t b[6] = {0}, l[4]; return whelk_lookup_hop(whelk_run_lookup(b, 6, 0, l, 4)) + (whelk_address_of(l) > 0);", None),
     ("uint64_t k[2]; uint16_t h[2]; uint8_t r[2], f[1] = {0}; return whelk_import(f, 1, k, 2, h, 2, r, 2).rows == 1;", None),
     ("uint64_t k[2]; uint16_t h[2], r[5]; uint32_t s[5]; return whelk_build(0, k, 0, h, 0, s, 5, r, 5) == 1;", None),
     ("return whelk_pull(0, 0, 0).found == 0;", "nonnull"),
-    ("uint8_t b[6] = {0}; whelk_run_lookup(b, 6, 0); return 0;", "unused-result"),
-    ("uint8_t b[5] = {0}; return whelk_lookup_hop(whelk_run_lookup(b, 6, 0));", "stringop-overread"),
-    ("uint8_t b[6]; return whelk_lookup_hop(whelk_run_lookup(b, 6, 0));", "uninitialized"),
+    ("uint8_t b[6] = {0}, l[4]; whelk_run_lookup(b, 6, 0, l, 4); return 0;", "unused-result"),
+    ("uint8_t b[5] = {0}, l[4]; return whelk_lookup_hop(whelk_run_lookup(b, 6, 0, l, 4));", "stringop-overread"),
+    ("uint8_t b[6], l[4]; return whelk_lookup_hop(whelk_run_lookup(b, 6, 0, l, 4));", "uninitialized"),
+    ("uint8_t b[6] = {0}, l[3]; return whelk_lookup_hop(whelk_run_lookup(b, 6, 0, l, 4));", "stringop-overflow"),
     ("uint64_t k[1] = {0}; uint16_t h[1] = {1}, r[3]; uint32_t s[2]; return whelk_build(1, k, 1, h, 1, s, 3, r, 3) == 1;", "stringop-overflow"),
 ]
 

@@ -75,11 +75,24 @@ static void lookups(void)
     check("hop 0 is 11", whelk_plain_lookup(3, keys, 3, zero, 3, 0) == 11 * 65536);
     const uint32_t starts[3] = {0, 0x0a000000, 0x0b000000};
     const uint16_t runs[3] = {0, 7, 0};
-    check("run lookup: hop 7 after two probes", whelk_run_lookup_slices(3, starts, 3, runs, 3, 0x0a000000) == ((uint64_t)2 << 32) + 7);
-    check("run lookup: no runs is 11", whelk_run_lookup_slices(0, starts, 3, runs, 3, 0) == 11 * 65536);
+    uint32_t last = 99;
+    check("run lookup: no runs is 11, and the lent number stays",
+          whelk_run_lookup_slices(0, starts, 3, runs, 3, 0, &last) == 11 * 65536 && last == 99);
+    check("run lookup: hop 7 after two probes, up to 10.255.255.255",
+          whelk_run_lookup_slices(3, starts, 3, runs, 3, 0x0a000000, &last) == ((uint64_t)2 << 32) + 7 && last == 0x0affffff);
+    check("run lookup: the last run holds up to 255.255.255.255",
+          whelk_run_lookup_slices(3, starts, 3, runs, 3, 0x0b000000, &last) == ((uint64_t)2 << 32) && last == 0xffffffff);
     const uint8_t bytes[12] = {0, 0, 0, 0, 0, 0, 10, 0, 0, 0, 0, 7};
-    check("run bytes", whelk_run_lookup(bytes, 12, 0x0affffff) == 7 && whelk_run_lookup(bytes, 12, 0x09ffffff) == 0);
-    check("run bytes: a length that 6 doesn't divide is 11", whelk_run_lookup(bytes, 11, 0) == 11 * 65536);
+    uint8_t out[6] = {8, 8, 8, 8, 8, 8};
+    const uint8_t eights[6] = {8, 8, 8, 8, 8, 8}, first[6] = {9, 255, 255, 255, 8, 8}, second[6] = {255, 255, 255, 255, 8, 8};
+    check("run bytes: a length that 6 doesn't divide is 11, without room too, and the lent bytes stay",
+          whelk_run_lookup(bytes, 11, 0, out, 6) == 11 * 65536 && whelk_run_lookup(bytes, 11, 0, out, 3) == 11 * 65536 &&
+              memcmp(out, eights, 6) == 0);
+    check("run bytes: three bytes are 13, and stay", whelk_run_lookup(bytes, 12, 0, out, 3) == 13 * 65536 && memcmp(out, eights, 6) == 0);
+    check("run bytes: up to 9.255.255.255, bytes past four stay",
+          whelk_run_lookup(bytes, 12, 0x09ffffff, out, 6) == 0 && memcmp(out, first, 6) == 0 && whelk_address_of(out) == 0x09ffffff);
+    check("run bytes: the last run, in just four bytes",
+          whelk_run_lookup(bytes, 12, 0x0affffff, out, 4) == 7 && memcmp(out, second, 6) == 0);
 }
 
 /* The run tables of list A, of the empty list and of only 255.255.255.255/32. */

@@ -1,11 +1,12 @@
-/* Run lookup against two lookups of its own: halving as a loop over low and high, for every table, and a walk over the runs for tables
-   that are well-formed. Inputs come from a fixed seed. What is counted is the groups below. */
+/* Run lookup, its hop, its probes and its last address, against two lookups of its own: halving as a loop over low and high, for every table,
+   and a walk over the runs for tables that are well-formed. Inputs come from a fixed seed. What is counted is the groups below. */
 #include "testing.h"
 #include "whelkhollow.h"
 
 #define MOST 1000000u
 #define LAST 0xffffffffu
 #define REFUSED (65536u * WHELK_ILL_FORMED)
+#define NO_ROOM (65536u * WHELK_NO_ROOM)
 
 static uint32_t starts[MOST];
 static uint16_t hops[MOST];
@@ -29,8 +30,8 @@ static uint32_t below(uint32_t n)
     return any() % n;
 }
 
-/* halving, by rules 7.3 and 7.4: the hop at low, and the number of probes */
-static uint16_t halved(size_t n, uint32_t address, unsigned *probes)
+/* halving, by rules 7.3 and 7.4: the hop at low, the last address before high, and the number of probes */
+static uint16_t halved(size_t n, uint32_t address, unsigned *probes, uint32_t *last)
 {
     size_t low = 0, high = n;
     *probes = 0;
@@ -42,15 +43,17 @@ static uint16_t halved(size_t n, uint32_t address, unsigned *probes)
         else
             high = place;
     }
+    *last = high == n ? LAST : starts[high] - 1;
     return hops[low];
 }
 
 /* run i begins at start i and ends before start i + 1 */
-static uint16_t walked(size_t n, uint32_t address)
+static uint16_t walked(size_t n, uint32_t address, uint32_t *last)
 {
     size_t i = 0;
     while (i + 1 < n && starts[i + 1] <= address)
         i++;
+    *last = i + 1 < n ? starts[i + 1] - 1 : LAST;
     return hops[i];
 }
 
@@ -80,13 +83,37 @@ static uint8_t *bytes_of(size_t n)
     return bytes;
 }
 
+/* A lookup in run bytes, with so many of six bytes lent for the last address: what it returns, and the last address that it leaves. A refusal
+   leaves all six. */
+static void in_bytes(const uint8_t *bytes, size_t length, uint32_t address, size_t lent, uint64_t want, uint32_t last)
+{
+    uint8_t out[6] = {1, 2, 3, 4, 5, 6}, left[6] = {1, 2, 3, 4, 5, 6};
+    int i;
+    same(whelk_run_lookup(bytes, length, address, out, lent), want, length / 6, address);
+    for (i = 0; i < 4 && want < 65536; i++)
+        left[i] = (uint8_t)(last >> (24 - 8 * i));
+    for (i = 0; i < 6; i++)
+        if (out[i] != left[i])
+            wrong++;
+}
+
+/* The same in slices, with a number lent for the last address. */
+static void in_slices(size_t n, size_t starts_length, size_t hops_length, uint32_t address, uint64_t want, uint32_t last)
+{
+    uint32_t out = 77;
+    same(whelk_run_lookup_slices(n, starts, starts_length, hops, hops_length, address, &out), want, n, address);
+    if (out != (want == REFUSED ? 77 : last))
+        wrong++;
+}
+
 /* one address, in slices and in run bytes */
 static void at(const uint8_t *bytes, size_t n, uint32_t address)
 {
     unsigned probes, p = 0;
-    uint16_t hop = halved(n, address, &probes);
-    same(whelk_run_lookup(bytes, 6 * n, address), hop, n, address);
-    same(whelk_run_lookup_slices(n, starts, MOST, hops, MOST, address), (uint64_t)probes << 32 | hop, n, address);
+    uint32_t last;
+    uint16_t hop = halved(n, address, &probes, &last);
+    in_bytes(bytes, 6 * n, address, 6, hop, last);
+    in_slices(n, MOST, MOST, address, (uint64_t)probes << 32 | hop, last);
     while (((size_t)1 << p) < n)
         p++;
     if (probes > p)
@@ -140,10 +167,10 @@ static void figure(void)
         hops[i] = hops_of_a[i];
     }
     bytes = bytes_of(10);
-    same(whelk_run_lookup(bytes, 60, 0xc81b70aa), 2, 10, 0xc81b70aa);
-    same(whelk_run_lookup(bytes, 60, 0xc81c0000), 0, 10, 0xc81c0000);
-    same(whelk_run_lookup(bytes, 60, 0xc817ffff), 0, 10, 0xc817ffff);
-    same(whelk_run_lookup(bytes, 60, 0xc819ffff), 1, 10, 0xc819ffff);
+    in_bytes(bytes, 60, 0xc81b70aa, 4, 2, 0xc81b7fff);
+    in_bytes(bytes, 60, 0xc81c0000, 4, 0, LAST);
+    in_bytes(bytes, 60, 0xc817ffff, 4, 0, 0xc817ffff);
+    in_bytes(bytes, 60, 0xc819ffff, 4, 1, 0xc819ffff);
     over(10, 1000);
 }
 
@@ -154,12 +181,13 @@ static void lengths(void)
     well_formed(1000);
     bytes = bytes_of(1000);
     for (length = 0; length <= 6000; length++) {
-        uint32_t address = any();
+        uint32_t address = any(), last = 0;
         unsigned probes;
-        if (length == 0 || length % 6 != 0)
-            same(whelk_run_lookup(bytes, length, address), REFUSED, length / 6, address);
-        else
-            same(whelk_run_lookup(bytes, length, address), halved(length / 6, address, &probes), length / 6, address);
+        size_t lent = length % 7;
+        int ill = length == 0 || length % 6 != 0;
+        uint64_t hop = ill ? REFUSED : halved(length / 6, address, &probes, &last);
+        in_bytes(bytes, length, address, 6, hop, last);
+        in_bytes(bytes, length, address, lent, ill || lent >= 4 ? hop : NO_ROOM, last);
     }
 }
 
@@ -167,19 +195,19 @@ static void counts(void)
 {
     size_t n;
     well_formed(100);
-    same(whelk_run_lookup_slices(0, starts, 100, hops, 100, 5), REFUSED, 0, 5);
-    same(whelk_run_lookup_slices(0, starts, 0, hops, 0, 5), REFUSED, 0, 5);
-    same(whelk_run_lookup_slices((size_t)-1, starts, 100, hops, 100, 5), REFUSED, 0, 5);
+    in_slices(0, 100, 100, 5, REFUSED, 0);
+    in_slices(0, 0, 0, 5, REFUSED, 0);
+    in_slices((size_t)-1, 100, 100, 5, REFUSED, 0);
     for (n = 1; n <= 100; n++) {
         unsigned probes;
-        uint32_t address = any();
-        uint64_t want = halved(n, address, &probes);
+        uint32_t address = any(), last;
+        uint64_t want = halved(n, address, &probes, &last);
         want |= (uint64_t)probes << 32;
-        same(whelk_run_lookup_slices(n, starts, n, hops, n, address), want, n, address);
-        same(whelk_run_lookup_slices(n, starts, n, hops, 100, address), want, n, address);
-        same(whelk_run_lookup_slices(n, starts, 100, hops, n, address), want, n, address);
-        same(whelk_run_lookup_slices(n, starts, n - 1, hops, n, address), REFUSED, n, address);
-        same(whelk_run_lookup_slices(n, starts, n, hops, n - 1, address), REFUSED, n, address);
+        in_slices(n, n, n, address, want, last);
+        in_slices(n, n, 100, address, want, last);
+        in_slices(n, 100, n, address, want, last);
+        in_slices(n, n - 1, n, address, REFUSED, 0);
+        in_slices(n, n, n - 1, address, REFUSED, 0);
     }
 }
 
@@ -213,8 +241,9 @@ static void by_walking(void)
         well_formed(n);
         bytes = bytes_of(n);
         for (k = 0; k < 1000; k++) {
-            uint32_t address = k % 2 == 0 ? any() : starts[below((uint32_t)n)] - (uint32_t)(k / 2 % 2);
-            same(whelk_run_lookup(bytes, 6 * n, address), walked(n, address), n, address);
+            uint32_t address = k % 2 == 0 ? any() : starts[below((uint32_t)n)] - (uint32_t)(k / 2 % 2), last;
+            uint16_t hop = walked(n, address, &last);
+            in_bytes(bytes, 6 * n, address, 4, hop, last);
         }
     }
 }

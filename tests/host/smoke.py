@@ -33,8 +33,8 @@ for name, result, arguments in (
     ("whelk_write", c_uint64, (c_size_t, *(3 * SLICE))),
     ("whelk_plain_lookup", c_uint32, (c_size_t, *SLICE, *SLICE, c_uint32)),
     ("whelk_build", c_uint64, (c_size_t, *(4 * SLICE))),
-    ("whelk_run_lookup_slices", c_uint64, (c_size_t, *SLICE, *SLICE, c_uint32)),
-    ("whelk_run_lookup", c_uint32, (*SLICE, c_uint32)),
+    ("whelk_run_lookup_slices", c_uint64, (c_size_t, *SLICE, *SLICE, c_uint32, c_void_p)),
+    ("whelk_run_lookup", c_uint32, (*SLICE, c_uint32, *SLICE)),
     ("whelk_pair_check", c_size_t, (c_size_t, *SLICE, *SLICE, c_size_t, *SLICE, *SLICE)),
     ("whelk_pack", Packed, (c_uint16, c_size_t, *SLICE, *SLICE, c_size_t, *(5 * SLICE))),
     ("whelk_packed_lookup", c_uint32, (c_uint32, *(3 * SLICE), c_uint32)),
@@ -57,7 +57,7 @@ feed = b"10.0.0.0/8 7\n10.64.0.0/16 9\n10.0.0.1/8 7\n"
 feed = (c_uint8 * len(feed)).from_buffer_copy(feed)
 keys, hops, report = (c_uint64 * 4)(), (c_uint16 * 4)(), (c_uint8 * 4)()
 starts, run_hops, text = (c_uint32 * 9)(), (c_uint16 * 9)(), (c_uint8 * 30)(*(30 * b"-"))
-counts = library.whelk_import(*lent(feed, keys, hops, report))
+counts, last = library.whelk_import(*lent(feed, keys, hops, report)), c_uint32(9)
 answers = [
     ([getattr(counts, name) for name, _ in Counts._fields_], [0, 3, 2, 0, 0, 1, 0, 0, 0]),
     (list(report), [0, 0, 3, 0]),
@@ -68,8 +68,10 @@ answers = [
     (library.whelk_pair_check(2, *lent(keys, hops), 5, *lent(starts, run_hops)), 0),
     (library.whelk_pair_check(2, *lent(keys, hops), 4, *lent(starts, run_hops)), 14),
     (library.whelk_plain_lookup(2, *lent(keys, hops), 0xA400001), 9),
-    (library.whelk_run_lookup_slices(5, *lent(starts, run_hops), 0xA400001), 2 * 2**32 + 9),
-    (library.whelk_run_lookup_slices(0, *lent(starts, run_hops), 0), 65536 * 11),
+    (library.whelk_run_lookup_slices(5, *lent(starts, run_hops), 0xA400001, byref(last)), 2 * 2**32 + 9),
+    (last.value, 0xA40FFFF),
+    (library.whelk_run_lookup_slices(0, *lent(starts, run_hops), 0, byref(last)), 65536 * 11),
+    (last.value, 0xA40FFFF),
 ]
 tally = Tally(9, 9, 9, 9, 9, 9, 9, 9)
 answers += [
@@ -88,7 +90,14 @@ for place, wanted in (
     answers.append(([getattr(row, name) for name, _ in Row._fields_], wanted))
 runs = b"".join(starts[i].to_bytes(4, "big") + run_hops[i].to_bytes(2, "big") for i in range(5))
 runs = (c_uint8 * len(runs)).from_buffer_copy(runs)
-answers += [(library.whelk_run_lookup(*lent(runs), 0xA410000), 7), (library.whelk_run_lookup(runs, 29, 0), 65536 * 11)]
+last_bytes = (c_uint8 * 5)(9, 9, 9, 9, 9)
+answers += [
+    (library.whelk_run_lookup(runs, 29, 0, *lent(last_bytes)), 65536 * 11),
+    (library.whelk_run_lookup(*lent(runs), 0, last_bytes, 3), 65536 * 13),
+    (bytes(last_bytes), b"\t\t\t\t\t"),
+    (library.whelk_run_lookup(*lent(runs), 0xA410000, *lent(last_bytes)), 7),
+    (bytes(last_bytes), b"\n\xff\xff\xff\t"),
+]
 words, bases, packed_hops = (c_uint16 * 2)(9, 9), (c_uint16 * 2)(9, 9), (c_uint16 * 2)(9, 9)
 packed = library.whelk_pack(0xA40, 2, *lent(keys, hops), 5, *lent(starts, run_hops, words, bases, packed_hops))
 answers += [

@@ -252,8 +252,9 @@ static void labels_at(size_t k, size_t n, uint32_t address)
 /* The same in the run tables, without the probes. */
 static void run_labels_at(uint32_t address)
 {
-    uint64_t one = whelk_run_lookup_slices(built[0].runs, built[0].starts, built[0].runs, built[0].labels, built[0].runs, address);
-    uint64_t other = whelk_run_lookup_slices(built[1].runs, built[1].starts, built[1].runs, built[1].labels, built[1].runs, address);
+    uint32_t last;
+    uint64_t one = whelk_run_lookup_slices(built[0].runs, built[0].starts, built[0].runs, built[0].labels, built[0].runs, address, &last);
+    uint64_t other = whelk_run_lookup_slices(built[1].runs, built[1].starts, built[1].runs, built[1].labels, built[1].runs, address, &last);
     same("the XOR in the run tables", (one ^ other) & 0xffffffff, longest(count, keys, hops, address));
     lookups += 2;
 }

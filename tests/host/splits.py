@@ -7,17 +7,18 @@ usage: splits.py LIBRARY
 import pathlib
 import random
 import sys
-from ctypes import CDLL, c_size_t, c_uint16, c_uint32, c_uint64, c_void_p
+from ctypes import CDLL, byref, c_size_t, c_uint16, c_uint32, c_uint64, c_void_p
 
 sys.path.insert(0, str(pathlib.Path(__file__).resolve().parent.parent))
 from reference import SPACE, plain, runs_of, size_of, split
 
 library = CDLL(sys.argv[1])
+last = c_uint32()
 SLICE = (c_void_p, c_size_t)
 library.whelk_split.restype, library.whelk_split.argtypes = c_uint64, (c_size_t, c_size_t, *(4 * SLICE))
 library.whelk_half_lookup.restype, library.whelk_half_lookup.argtypes = c_uint32, (c_size_t, *SLICE, *SLICE, c_uint32)
 library.whelk_build_half.restype, library.whelk_build_half.argtypes = c_uint64, (c_size_t, *(4 * SLICE))
-library.whelk_run_lookup_slices.restype, library.whelk_run_lookup_slices.argtypes = c_uint64, (c_size_t, *SLICE, *SLICE, c_uint32)
+library.whelk_run_lookup_slices.restype, library.whelk_run_lookup_slices.argtypes = c_uint64, (c_size_t, *SLICE, *SLICE, c_uint32, c_void_p)
 
 
 class Differs(Exception):
@@ -90,8 +91,10 @@ def split_as_the_reference(routes, k, room, more):
         one = library.whelk_half_lookup(k, *lent(keys, hops), address)
         other = library.whelk_half_lookup(len(half), *lent(half_keys, labels), address)
         same((one, other, one ^ other), (plain(routes[:k], address), plain(half, address), plain(routes, address)))
-        one = library.whelk_run_lookup_slices(*first, address)
-        other = library.whelk_run_lookup_slices(*second, address)
+        one = library.whelk_run_lookup_slices(*first, address, byref(last))
+        same(plain(routes[:k], last.value), plain(routes[:k], address))
+        same(last.value == SPACE - 1 or plain(routes[:k], last.value + 1) != plain(routes[:k], address), True)
+        other = library.whelk_run_lookup_slices(*second, address, byref(last))
         same((one ^ other) % 2**32, plain(routes, address))  # without the probes
     return number
 

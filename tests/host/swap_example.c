@@ -33,7 +33,8 @@ static atomic_int over;
 
 static uint16_t hop_of(const struct table *t, uint32_t address)
 {
-    uint64_t found = whelk_run_lookup_slices(t->runs, t->starts, 9, t->run_hops, 9, address);
+    uint32_t last;
+    uint64_t found = whelk_run_lookup_slices(t->runs, t->starts, 9, t->run_hops, 9, address, &last);
     return whelk_lookup_number(found) == WHELK_DONE ? whelk_lookup_hop(found) : 0;
 }
 

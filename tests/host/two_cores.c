@@ -31,7 +31,8 @@ static void *forward(void *argument)
     size_t i, runs = whelk_build_runs(built);
     c->refused = whelk_build_number(built) != WHELK_DONE;
     for (i = 0; i < ADDRESSES && !c->refused; i++) {
-        uint64_t found = whelk_run_lookup_slices(runs, c->starts, runs, c->run_labels, runs, queue[i]);
+        uint32_t last;
+        uint64_t found = whelk_run_lookup_slices(runs, c->starts, runs, c->run_labels, runs, queue[i], &last);
         c->refused = whelk_lookup_number(found) != WHELK_DONE;
         c->found[i] = whelk_lookup_hop(found);
     }
@@ -92,7 +93,8 @@ int main(void)
     runs = whelk_build_runs(built);
     if (whelk_build_number(built) != WHELK_DONE) return 1;
     for (i = 0; i < ADDRESSES; i++) {
-        uint64_t found = whelk_run_lookup_slices(runs, starts, runs, run_hops, runs, queue[i]);
+        uint32_t last;
+        uint64_t found = whelk_run_lookup_slices(runs, starts, runs, run_hops, runs, queue[i], &last);
         if (whelk_lookup_number(found) == WHELK_DONE && (cores[0].found[i] ^ cores[1].found[i]) == (int)whelk_lookup_hop(found)) agreed++;
     }
     printf("%zu rows and %zu, %zu addresses of %d agree\n", cores[0].count, cores[1].count, agreed, ADDRESSES);

@@ -1,15 +1,21 @@
 -- Demand 1: any feed, list, table or address may be handed to any entry. A refused call says which fault it met first, by number, and
 -- changes no lent memory. Import carries on past a bad row: every row gets its number, and rows in = rows taken + rows replaced + rows
 -- refused, reason by reason. Each answer here is any that keeps its entry's contract. An entry of the library that isn't here refuses
--- nothing; the exports give the same outcomes (host, `Exports`).
+-- nothing; the exports give the same outcomes (host, `Exports`), but that run lookups are also lent memory for the last address, a number
+-- over slices and bytes over run bytes, and these two have fields here.
 -- Its definitions: `firstFault`, `checkOrder` (ground, `Numbers`), and of each entry its outcome, its checks and its `Gave`.
 -- Assumes nothing.
 use mathlib.Core.Path.{_≡_, refl, sym, ap, _∙_}
-use mathlib.Core.Bool.{Bool}
+use mathlib.Core.Bool.{Bool, true, false, cond}
 use mathlib.Core.List.{List}
-use Prim.Native.Nat.{ℕ, _+_}
-use lib.ListN.{length, take}
-use Rattle.ground.specs.Numbers.{firstFault, done}
+use Prim.Native.Nat.{ℕ, _+_, _*_, _/_, _<_}
+use native.Mathlib.Omega.{arith}
+use lib.ListN.{length, getD, take}
+use lib.Dec.{eqb}
+use borrow.Author.Tests.{ne-eqb}
+use Rattle.ground.specs.Numbers.{firstFault, outcome, done}
+use Rattle.ground.proofs.Truth.{cond-false}
+use Rattle.ground.proofs.Numbers.{outcome-refused}
 use Rattle.routes.specs.declared.Looked.{Looked}
 use Rattle.routes.specs.Row.{ListLent, listRoom}
 use Rattle.routes.specs.Lookup.{lookedUp, LookupOutcome, lookupGave, plainLookup, lookupChecks, halfLookup, halfChecks}
@@ -25,9 +31,12 @@ use Rattle.feed.proofs.TallyPromise.{tally-is-counts, tally-untouched}
 use Rattle.runs.specs.declared.Built.{Built}
 use Rattle.runs.specs.declared.Paired.{Paired}
 use Rattle.runs.specs.declared.Probed.{Probed}
+use Rattle.runs.specs.declared.Held.{Held}
 use Rattle.runs.specs.Table.{RunsLent}
 use Rattle.runs.specs.Build.{SlotsLent, BuildOutcome, built, buildGave, buildOf, buildChecks}
-use Rattle.runs.specs.Lookup.{RunLookupOutcome, probed, runLookupGave, runLookup, runChecks, bytesLookup, bytesChecks}
+use Rattle.runs.specs.Bytes.{hopAt}
+use Rattle.runs.specs.Lookup.{RunLookupOutcome, probed, runLookupGave, runLookup, runChecks}
+use Rattle.runs.specs.Lookup.{BytesLookupOutcome, held, bytesLookupGave, bytesLookup, bytesChecks}
 use Rattle.runs.specs.Pair.{Pair, pairGave, pairCheck, pairChecks}
 use Rattle.text.specs.declared.Written.{Written}
 use Rattle.text.specs.Text.{WriteOutcome, wrote, writeGave, write, writeChecks}
@@ -39,6 +48,8 @@ use Rattle.edit.specs.declared.Edit.{Edit}
 use Rattle.edit.specs.Edit.{Edited, editRefused, editGave, announce, announceChecks, withdraw, withdrawChecks}
 use Rattle.split.specs.declared.Parted.{Parted}
 use Rattle.split.specs.Split.{SplitLent, SplitOutcome, splitInto, splitGave, split, splitChecks}
+use Rattle.host.specs.Exports.{lookupForC, HeldForC, heldGaveC, heldForC, heldChecks}
+use Rattle.host.specs.Exports.{runLookupForC, probedGaveC, probedForC}
 use Rattle.demands.proofs.Orders.{InOrder, orders}
 use Rattle.demands.proofs.First.{First, first-of}
 
@@ -74,6 +85,35 @@ tally-first feed l tally r keys hops report left g = record {
     short Done fault = absurd (fault refl)
     short ReportShort fault = refl
 
+-- a hop in run bytes is a number of two bytes, so C finds the number above it
+module _ (bytes : List ℕ) (a : ℕ) (small : (i : ℕ) → getD bytes i 0 < 256) where
+  hop-below : bytesLookup bytes a .hop < 65536
+  unfolding bytesLookup outcome hopAt
+  hop-below = go (eqb (firstFault (bytesChecks bytes)) done) _ _ _ _ (small _) (small _)
+    where
+      go : (b : Bool) (x y last number : ℕ) → x < 256 → y < 256 → (cond b (held done (x * 256 + y) last) (held number 0 0)) .hop < 65536
+      go true x y last number l m = omega arith
+      go false x y last number l m = omega arith
+
+  held-first : (last : List ℕ) (r : ℕ) (left : List ℕ) → heldGaveC r left ≡ heldForC bytes a last
+      → First (λ (o : HeldForC). o .answer / 65536) (heldChecks bytes last) (λ n. heldGaveC (lookupForC (lookedUp n 0)) last)
+      (heldGaveC r left)
+  unfolding heldForC lookupForC
+  held-first last r left =
+      first-of (λ (o : HeldForC). o .answer / 65536) _ _ _ (λ n. omega arith) (omega (arith, hop-below)) (orders .held bytes last)
+      (heldGaveC r left)
+
+-- a run lookup over slices that is refused: what C gets, and the lent number as it was
+probed-left : (t : RunsLent) (a last r left : ℕ) → probedGaveC r left ≡ probedForC (runLookup t a) last
+    → (firstFault (runChecks t) ≡ done → ⊥)
+    → probedGaveC r left ≡ probedGaveC (runLookupForC (probed (firstFault (runChecks t)) 0 0 0)) last
+unfolding probedForC runLookup
+probed-left t a last r left e fault =
+    let n = firstFault (runChecks t) in
+    e
+    ∙ rw (outcome-refused (runChecks t) (λ m. probed m 0 0 0) _ n refl fault)
+    (ap (probedGaveC (runLookupForC (probed n 0 0 0))) (cond-false _ _ (ne-eqb n done fault)))
+
 pub record One : Type 0 where
   pub plain-lookup : (l : ListLent) (a : ℕ) (r : Looked) → lookupGave r ≡ plainLookup l a
       → First looked (lookupChecks l) (λ n. lookedUp n 0) (lookupGave r)
@@ -87,9 +127,15 @@ pub record One : Type 0 where
       → First (λ o. o .number) (buildChecks half l s) (λ n. built n 0 (s .starts) (s .hops)) (buildGave r starts hops)
   pub pair-check : (p : Pair) (r : Paired) → pairGave r ≡ pairCheck p → (pairGave r ≡ firstFault (pairChecks p)) × InOrder (pairChecks p)
   pub run-lookup : (t : RunsLent) (a : ℕ) (r : Probed) → runLookupGave r ≡ runLookup t a
-      → First (λ o. o .number) (runChecks t) (λ n. probed n 0 0) (runLookupGave r)
-  pub bytes-lookup : (bytes : List ℕ) (a : ℕ) (r : Looked) → lookupGave r ≡ bytesLookup bytes a
-      → First looked (bytesChecks bytes) (λ n. lookedUp n 0) (lookupGave r)
+      → First (λ o. o .number) (runChecks t) (λ n. probed n 0 0 0) (runLookupGave r)
+  pub bytes-lookup : (bytes : List ℕ) (a : ℕ) (r : Held) → bytesLookupGave r ≡ bytesLookup bytes a
+      → First (λ o. o .number) (bytesChecks bytes) (λ n. held n 0 0) (bytesLookupGave r)
+  pub bytes-lookup-for-c : (bytes : List ℕ) (a : ℕ) → ((i : ℕ) → getD bytes i 0 < 256) → (last : List ℕ) (r : ℕ) (left : List ℕ)
+      → heldGaveC r left ≡ heldForC bytes a last
+      → First (λ o. o .answer / 65536) (heldChecks bytes last) (λ n. heldGaveC (lookupForC (lookedUp n 0)) last) (heldGaveC r left)
+  pub run-lookup-for-c : (t : RunsLent) (a last r left : ℕ) → probedGaveC r left ≡ probedForC (runLookup t a) last
+      → (firstFault (runChecks t) ≡ done → ⊥)
+      → probedGaveC r left ≡ probedGaveC (runLookupForC (probed (firstFault (runChecks t)) 0 0 0)) last
   pub packs : (q : ℕ) (p : Pair) (l : PackLent) (r : Packing) (words bases hops : List ℕ) → packGave r words bases hops ≡ pack q p l
       → First (λ o. o .number) (packChecks q p l) (packRefused l) (packGave r words bases hops)
   pub packed-lookup : (s : SegmentLent) (a : ℕ) (r : PackedHop) → packedGave r ≡ packedLookup s a
@@ -117,7 +163,10 @@ refusals = record {
       first-of (λ (o : BuildOutcome). o .number) _ _ _ (λ n. refl) refl (orders .build half l s) (buildGave r starts hops);
   pair-check = λ p r e. (e, orders .pair p);
   run-lookup = λ t a r. first-of (λ (o : RunLookupOutcome). o .number) _ _ _ (λ n. refl) refl (orders .run t) (runLookupGave r);
-  bytes-lookup = λ bytes a r. first-of looked _ _ _ (λ n. refl) refl (orders .inBytes bytes) (lookupGave r);
+  bytes-lookup = λ bytes a r.
+      first-of (λ (o : BytesLookupOutcome). o .number) _ _ _ (λ n. refl) refl (orders .inBytes bytes) (bytesLookupGave r);
+  bytes-lookup-for-c = held-first;
+  run-lookup-for-c = probed-left;
   packs = λ q p l r words bases hops.
       first-of (λ (o : PackOutcome). o .number) _ _ _ (λ n. refl) refl (orders .pack q p l) (packGave r words bases hops);
   packed-lookup = λ s a r. first-of looked _ _ _ (λ n. refl) refl (orders .packed s a) (packedGave r);

@@ -17,6 +17,7 @@ use Rattle.segment.specs.Pack.{PackLent, packChecks}
 use Rattle.segment.specs.Lookup.{SegmentLent, packedChecks}
 use Rattle.edit.specs.Edit.{announceChecks, withdrawChecks}
 use Rattle.split.specs.Split.{SplitLent, splitChecks}
+use Rattle.host.specs.Exports.{heldChecks}
 
 abbrev pub InOrder : List Check → Type 0
 InOrder checks = inOrder checkOrder checks ≡ true
@@ -31,6 +32,7 @@ pub record Orders : Type 0 where
   pub pair : (p : Pair) → InOrder (pairChecks p)
   pub run : (t : RunsLent) → InOrder (runChecks t)
   pub inBytes : (bytes : List ℕ) → InOrder (bytesChecks bytes)
+  pub held : (bytes last : List ℕ) → InOrder (heldChecks bytes last)
   pub pack : (q : ℕ) (p : Pair) (l : PackLent) → InOrder (packChecks q p l)
   pub packed : (s : SegmentLent) (a : ℕ) → InOrder (packedChecks s a)
   pub announce : (net len hop : ℕ) (p : Pair) → InOrder (announceChecks net len hop p)
@@ -38,7 +40,7 @@ pub record Orders : Type 0 where
   pub split : (k : ℕ) (l : ListLent) (out : SplitLent) → InOrder (splitChecks k l out)
 
 pub orders : Orders
-unfolding past inOrder lookupChecks halfChecks importChecks writeChecks buildChecks pairChecks runChecks bytesChecks packChecks packedChecks announceChecks withdrawChecks splitChecks
+unfolding past inOrder lookupChecks halfChecks importChecks writeChecks buildChecks pairChecks runChecks bytesChecks heldChecks packChecks packedChecks announceChecks withdrawChecks splitChecks
 orders = record {
   lookup = λ l. refl;
   half = λ l. refl;
@@ -48,6 +50,7 @@ orders = record {
   pair = λ p. refl;
   run = λ t. refl;
   inBytes = λ bytes. refl;
+  held = λ bytes last. refl;
   pack = λ q p l. refl;
   packed = λ s a. refl;
   announce = λ net len hop p. refl;

@@ -1,15 +1,17 @@
 -- Demand 2: every address gets the hop of the longest listed prefix that matches it, or 0 if none matches. The run table says the same as
--- the list at every address, and a packed segment at every address of its segment. A list written as text reads back as the same list.
--- Each answer here is any that keeps its entry's contract.
+-- the list at every address, and its hop holds until the last address that it gives; a packed segment says the same at every address of its
+-- segment. A list written as text reads back as the same list. Each answer here is any that keeps its entry's contract.
 -- Its definitions: `plainLookup`, `lookupGave` (routes, `Lookup`); `holds`, `lengthOf` (cidr, `Prefix`); `build`, `buildGave` (runs,
--- `Build`); `runLookup`, `runLookupGave`, `bytesLookup` (runs, `Lookup`); `runBytes` (runs, `Bytes`); `pack`, `packGave` (segment, `Pack`);
--- `packedLookup`, `packedGave` (segment, `Lookup`); `write`, `writeGave` (text, `Text`); `import`, `importGave` (feed, `Import`).
+-- `Build`); `runLookup`, `runLookupGave`, `bytesLookup`, `bytesLookupGave` (runs, `Lookup`); `HoldsUntil` (runs, `HoldsUntil`); `runBytes`
+-- (runs, `Bytes`); `pack`, `packGave` (segment, `Pack`); `packedLookup`, `packedGave` (segment, `Lookup`); `write`, `writeGave` (text,
+-- `Text`); `import`, `importGave` (feed, `Import`).
 -- Assumes nothing.
 use mathlib.Core.Path.{_≡_, refl, sym, ap, _∙_}
 use mathlib.Core.Logic.{_⊎_, inl, inr, ⊎-elim}
 use mathlib.Core.Bool.{true, false}
-use mathlib.Core.List.{List}
+use mathlib.Core.List.{List, _++_}
 use Prim.Native.Nat.{ℕ, _/_, _≤_, _<_}
+use native.Mathlib.Omega.{arith}
 use lib.ListN.{length, getD, take}
 use Rattle.ground.specs.Numbers.{done}
 use Rattle.ground.specs.Slots.{written}
@@ -26,13 +28,15 @@ use Rattle.routes.specs.Lookup.{LookupOutcome, lookedUp, lookupGave, plainLooku
 use Rattle.routes.proofs.Plain.{NoMatch, Longest, plain-cases}
 use Rattle.runs.specs.declared.Built.the-variants.{Runs}
 use Rattle.runs.specs.declared.Probed.{Probed}
+use Rattle.runs.specs.declared.Held.{Held}
 use Rattle.runs.specs.Table.{runsLent, runStarts, runHops}
-use Rattle.runs.specs.Bytes.{runBytes}
+use Rattle.runs.specs.Bytes.{runBytes, startAt}
 use Rattle.runs.specs.Build.{SlotsLent, BuildOutcome, built, buildGave, build, buildOf, buildChecks}
-use Rattle.runs.specs.Lookup.{runLookupGave, runLookup, bytesLookup}
+use Rattle.runs.specs.Lookup.{runLookupGave, runLookup, BytesLookupOutcome, bytesLookupGave, bytesLookup}
 use Rattle.runs.specs.Pair.{Pair, listOf}
 use Rattle.runs.proofs.Lookups.{bytes-lookup-plain}
-use Rattle.runs.proofs.BuildThenLookup.{build-then-lookup}
+use Rattle.runs.proofs.HoldsUntil.{HoldsUntil, holds-as, bytes-hold-until}
+use Rattle.runs.proofs.BuildThenLookup.{build-then-lookup, build-then-holds}
 use Rattle.edit.proofs.EditKeepsPair.{same-count}
 use Rattle.segment.specs.declared.Packing.the-variants.{Done}
 use Rattle.segment.specs.declared.PackedHop.{PackedHop}
@@ -44,6 +48,7 @@ use Rattle.text.specs.Text.{writeGave, write}
 use Rattle.text.proofs.WriteThenImport.{ReadBackIn, write-then-import}
 use Rattle.feed.specs.declared.Imported.{Imported}
 use Rattle.feed.specs.Import.{ImportLent, importGave, import}
+use Rattle.host.specs.Exports.{addressBytes}
 
 -- an accepted plain lookup gives the hop of the longest listed prefix that holds the address, or 0 where none does
 module _ (l : ListLent) (a : ℕ) (r : Looked) (e : lookupGave r ≡ plainLookup l a) (d : lookupGave r .number ≡ done) where
@@ -63,7 +68,13 @@ pub run-table-says : (l : ListLent) (t : SlotsLent) {n : ℕ} {starts hops : Lis
     → lookupGave p ≡ plainLookup l a → (runLookupGave r .number ≡ done) × (runLookupGave r .hop ≡ lookupGave p .hop)
 run-table-says l t = build-then-lookup l t
 
--- and so does lookup in the run bytes of those runs
+-- plain lookup gives that hop at every address up to the last one that the run lookup gives, and another at the next
+pub run-table-holds : (l : ListLent) (t : SlotsLent) {n : ℕ} {starts hops : List ℕ} → buildGave (Runs n) starts hops ≡ build l t
+    → {a : ℕ} (r : Probed) → a < addresses → runLookupGave r ≡ runLookup (runsLent n starts hops) a
+    → HoldsUntil (λ b. plainLookup l b .hop) a (runLookupGave r .last)
+run-table-holds l t = build-then-holds l t
+
+-- the same of lookup in the run bytes of those runs
 module _ (l : ListLent) (t : SlotsLent) {n : ℕ} {starts hops : List ℕ} (b : buildGave (Runs n) starts hops ≡ build l t) where
   left : built done n starts hops
       ≡ built done (length (runStarts (rowsLent l))) (written (runStarts (rowsLent l)) (t .starts)) (written (runHops (rowsLent l)) (t .hops))
@@ -85,10 +96,28 @@ module _ (l : ListLent) (t : SlotsLent) {n : ℕ} {starts hops : List ℕ} (b : 
       let h = ap (take n) (ap (λ (o : BuildOutcome). o .hops) left) ∙ take-written _ (t .hops) n (count-is ∙ sym (same-count (rowsLent l))) in
       rw (s, h)
 
-  pub run-bytes-say : (a : ℕ) (r p : Looked) → a < addresses → lookupGave r ≡ bytesLookup (runBytes (take n starts) (take n hops)) a
-      → lookupGave p ≡ plainLookup l a → lookupGave r ≡ lookupGave p
-  run-bytes-say a r p below e e′ =
-      e ∙ ap (λ bytes. bytesLookup bytes a) bytes-are ∙ bytes-lookup-plain (rowsLent l) a below ∙ sym (e′ ∙ plain-accepted l a well)
+  module _ (a : ℕ) (r : Held) (below : a < addresses)
+      (e : bytesLookupGave r ≡ bytesLookup (runBytes (take n starts) (take n hops)) a) where
+    in-table : bytesLookupGave r ≡ bytesLookup (runBytes (runStarts (rowsLent l)) (runHops (rowsLent l))) a
+    in-table = e ∙ ap (λ bytes. bytesLookup bytes a) bytes-are
+
+    pub run-bytes-say : (p : Looked) → lookupGave p ≡ plainLookup l a
+        → (bytesLookupGave r .number ≡ done) × (bytesLookupGave r .hop ≡ lookupGave p .hop)
+    run-bytes-say p e′ =
+        let found = in-table ∙ bytes-lookup-plain (rowsLent l) a below in (
+          ap (λ (o : BytesLookupOutcome). o .number) found,
+          ap (λ (o : BytesLookupOutcome). o .hop) found ∙ sym (ap (λ (o : LookupOutcome). o .hop) (e′ ∙ plain-accepted l a well)),
+        )
+
+    pub run-bytes-hold : HoldsUntil (λ b. plainLookup l b .hop) a (bytesLookupGave r .last)
+    run-bytes-hold =
+        rw (ap (λ (o : BytesLookupOutcome). o .last) in-table)
+        (holds-as (λ b. ap (λ (o : LookupOutcome). o .hop) (plain-accepted l b well)) (bytes-hold-until (rowsLent l) a below))
+
+-- the four bytes in which C gets the last address, read as run bytes give a start, are that address
+pub last-reads-back : (last : ℕ) (rest : List ℕ) → startAt (addressBytes last ++ rest) 0 ≡ last
+unfolding startAt
+last-reads-back last rest = omega arith
 
 -- packed lookup in what an accepted packing left gives the plain answer, at every address of the segment
 pub packed-segment-says : (q : ℕ) (p : Pair) (l : PackLent) {w n m : ℕ} {words bases hops : List ℕ}

@@ -1,6 +1,8 @@
 -- The whole way through C: import of a feed, build of what it left, and lookup of any address in what the build left, each unpacked as C
--- unpacks it, give the plain answer of the list that the feed's rows give. Run hops are slots of 16 bits.
--- Its definitions: `importedList` (feed, `Import`); `plain` (routes, `Plain`); what C gets (host, `Exports`).
+-- unpacks it, give the plain answer of the list that the feed's rows give, and the last address until which it holds. Run hops are slots of
+-- 16 bits.
+-- Its definitions: `importedList` (feed, `Import`); `plain` (routes, `Plain`); `HoldsUntil` (runs, `HoldsUntil`); what C gets (host,
+-- `Exports`).
 -- Assumes nothing.
 use mathlib.Core.Path.{_≡_, refl, sym, ap, _∙_}
 use mathlib.Core.Logic.{⊎-elim}
@@ -27,9 +29,11 @@ use Rattle.runs.specs.Table.{runsLent, runStarts, runHops}
 use Rattle.runs.specs.Build.{SlotsLent, BuildOutcome, built, build, buildOf, buildChecks, runRoom}
 use Rattle.runs.specs.Lookup.{RunLookupOutcome, runLookup, runChecks}
 use Rattle.runs.proofs.Lookups.{run-lookup-plain}
+use Rattle.runs.proofs.HoldsUntil.{HoldsUntil, holds-until}
 use Rattle.edit.proofs.EditKeepsPair.{same-count}
 use Rattle.host.specs.declared.WhelkCounts.{WhelkCounts}
-use Rattle.host.specs.Exports.{hostImportGave, countsIn, BuildForC, buildGaveC, builtForC, buildForC, runLookupForC}
+use Rattle.host.specs.Exports.{hostImportGave, countsIn, BuildForC, buildGaveC, builtForC, buildForC}
+use Rattle.host.specs.Exports.{runLookupForC, ProbedForC, probedGaveC, probedForC}
 use Rattle.demands.proofs.Orders.{orders}
 use Rattle.demands.proofs.First.{First, first-of}
 
@@ -119,14 +123,24 @@ module _ (feed : List ℕ) (l : ImportLent) (w : WhelkCounts) (keys hops report 
       let t = runsLent (b % 4294967296) starts rhops in
       rw (accepted-is (λ (x : RunLookupOutcome). x .number) (runChecks t) _ _ (λ n. refl) e) (slots _)
 
-  pub whole-way : (a x : ℕ) → a < addresses → x ≡ runLookupForC (runLookup (runsLent (b % 4294967296) starts rhops) a)
-      → (x / 65536 % 65536 ≡ done) × (x % 65536 ≡ plain (importedList (listRoom (l .keys) (l .hops)) feed) a)
-  unfolding runLookupForC
-  whole-way a x below e =
-      let found = run-lookup-plain table (b % 4294967296) starts rhops count-is starts-are hops-are a below in
-      let t = runsLent (b % 4294967296) starts rhops in
-      let parts : x ≡ 4294967296 * runLookup t a .probes + (65536 * 0 + runLookup t a .hop) = rw (found .0) at e in
-      let c = hop-unpacked (runLookup t a .probes) (runLookup t a .hop) (small a (found .0)) in (
-        ap (λ n. n / 65536 % 65536) parts ∙ c .0,
-        ap (λ n. n % 65536) parts ∙ c .1 ∙ found .1 ∙ ap (λ rows. plain rows a) rows-are,
-      )
+  module _ (a x last lent : ℕ) (below : a < addresses)
+      (e : probedGaveC x last ≡ probedForC (runLookup (runsLent (b % 4294967296) starts rhops) a) lent) where
+    pub whole-way : (x / 65536 % 65536 ≡ done) × (x % 65536 ≡ plain (importedList (listRoom (l .keys) (l .hops)) feed) a)
+    unfolding runLookupForC probedForC
+    whole-way =
+        let found = run-lookup-plain table (b % 4294967296) starts rhops count-is starts-are hops-are a below in
+        let t = runsLent (b % 4294967296) starts rhops in
+        let parts : x ≡ 4294967296 * runLookup t a .probes + (65536 * 0 + runLookup t a .hop) =
+        rw (found .0) at (ap (λ (o : ProbedForC). o .answer) e) in
+        let c = hop-unpacked (runLookup t a .probes) (runLookup t a .hop) (small a (found .0)) in (
+          ap (λ n. n / 65536 % 65536) parts ∙ c .0,
+          ap (λ n. n % 65536) parts ∙ c .1 ∙ found .1 ∙ ap (λ rows. plain rows a) rows-are,
+        )
+
+    pub whole-way-holds : HoldsUntil (plain (importedList (listRoom (l .keys) (l .hops)) feed)) a last
+    unfolding probedForC
+    whole-way-holds =
+        let found = run-lookup-plain table (b % 4294967296) starts rhops count-is starts-are hops-are a below in
+        let t = runsLent (b % 4294967296) starts rhops in
+        let is : last ≡ runLookup t a .last = rw (found .0) at (ap (λ (o : ProbedForC). o .last) e) in
+        rw (is, ← rows-are) (holds-until table (b % 4294967296) starts rhops count-is starts-are hops-are a below)

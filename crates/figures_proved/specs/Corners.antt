@@ -27,7 +27,7 @@ use Rattle.runs.specs.Pair.{Pair, pair}
 use Rattle.runs.specs.Bytes.{runBytes}
 use Rattle.edit.specs.Edit.{announce, withdraw}
 use Rattle.runs.specs.Lookup.{runLookup, bytesLookup}
-use Rattle.host.specs.Exports.{lookupForC, runLookupForC}
+use Rattle.host.specs.Exports.{lookupForC, runLookupForC, probedForC, heldForC}
 use Rattle.segment.specs.Packed.{width, wordsOf, basesOf, packedHopsOf}
 use Rattle.segment.specs.Lookup.{segmentLent, packedLookup}
 use Rattle.split.specs.Split.{secondHalf, splitLent, SplitOutcome, split}
@@ -198,23 +198,42 @@ corners =
     ∷ figure (pulled (pull (bytes "255.255.255.255/32 7") 0 .reading)) (0 ∷ prefix 255 255 255 255 32 ∷ 7 ∷ [])
     ∷ figure (pull (bytes "0.0.0.0/0 7") 0 .next ∷ pull (bytes "0.0.0.0/0 7\n") 0 .next ∷ []) (11 ∷ 12 ∷ [])
     ∷ figure (length (pulls (bytes "\n\nx")) ∷ length (pulls (bytes "x\n")) ∷ []) (3 ∷ 1 ∷ [])
-    -- Rules 7.3 and 7.5: one run takes no probe, and five runs at most three.
-    ∷ figure (halving (λ i. i) 1 9 .low ∷ halving (λ i. i) 1 9 .probes ∷ []) (0 ∷ 0 ∷ [])
-    ∷ figure (halving (λ i. i) 5 9 .low ∷ halving (λ i. i) 5 9 .probes ∷ []) (4 ∷ 3 ∷ [])
-    ∷ figure (halving (λ i. i) 5 1 .low ∷ halving (λ i. i) 5 1 .probes ∷ []) (1 ∷ 2 ∷ [])
+    -- Rules 7.3 and 7.5: one run takes no probe, and five runs at most three. High is one above low.
+    ∷ figure (halving (λ i. i) 1 9 .low ∷ halving (λ i. i) 1 9 .high ∷ halving (λ i. i) 1 9 .probes ∷ []) (0 ∷ 1 ∷ 0 ∷ [])
+    ∷ figure (halving (λ i. i) 5 9 .low ∷ halving (λ i. i) 5 9 .high ∷ halving (λ i. i) 5 9 .probes ∷ []) (4 ∷ 5 ∷ 3 ∷ [])
+    ∷ figure (halving (λ i. i) 5 1 .low ∷ halving (λ i. i) 5 1 .high ∷ halving (λ i. i) 5 1 .probes ∷ []) (1 ∷ 2 ∷ 2 ∷ [])
     -- Rules 7.2 and 7.8: no runs, a count beyond one slice, and a wrong number of run bytes are 11. Rules 7.9 and 7.10: for C too.
     ∷ figure (runLookup (runsLent 0 [] []) 0 .number ∷ runLookup (runsLent 2 (0 ∷ 5 ∷ []) (1 ∷ [])) 0 .number ∷ []) (11 ∷ 11 ∷ [])
     ∷ figure (runLookup (runsLent 2 (0 ∷ 5 ∷ []) (1 ∷ 2 ∷ [])) 4 .hop ∷ runLookup (runsLent 2 (0 ∷ 5 ∷ []) (1 ∷ 2 ∷ [])) 5 .hop ∷ [])
     (1 ∷ 2 ∷ [])
     ∷ one (runLookup (runsLent 2 (0 ∷ 5 ∷ []) (1 ∷ 2 ∷ [])) 5 .probes) 1
+    -- Rule 7.4: the last address of a run before another, of the last run, of a refusal, and in tables that are in no order.
+    ∷ figure (runLookup (runsLent 2 (0 ∷ 5 ∷ []) (1 ∷ 2 ∷ [])) 4 .last ∷ runLookup (runsLent 2 (0 ∷ 5 ∷ []) (1 ∷ 2 ∷ [])) 5 .last ∷ [])
+    (4 ∷ dotted 255 255 255 255 ∷ [])
+    ∷ figure (runLookup (runsLent 1 (9 ∷ []) (1 ∷ [])) 0 .last ∷ runLookup (runsLent 2 (0 ∷ 5 ∷ []) (1 ∷ [])) 0 .last ∷ [])
+    (dotted 255 255 255 255 ∷ 0 ∷ [])
+    ∷ one (runLookup (runsLent 3 (9 ∷ 7 ∷ 3 ∷ []) (1 ∷ 2 ∷ 3 ∷ [])) 5 .last) 6
+    ∷ one (runLookup (runsLent 3 (9 ∷ 3 ∷ 7 ∷ []) (1 ∷ 2 ∷ 3 ∷ [])) 5 .last) 6
     ∷ figure (runLookupForC (runLookup (runsLent 0 [] []) 0) ∷ runLookupForC (runLookup (runsLent 2 (0 ∷ 5 ∷ []) (1 ∷ [])) 5) ∷ [])
     (720896 ∷ 720896 ∷ [])
     ∷ one (runLookupForC (runLookup (runsLent 1 (0 ∷ []) (7 ∷ [])) 4294967295)) 7
     ∷ one (runLookupForC (runLookup (runsLent 2 (0 ∷ 4294967295 ∷ []) (1 ∷ 65535 ∷ [])) 4294967295)) (4294967296 + 65535)
     ∷ figure (runBytes (0 ∷ dotted 1 2 3 4 ∷ []) (5 ∷ 1542 ∷ [])) (0 ∷ 0 ∷ 0 ∷ 0 ∷ 0 ∷ 5 ∷ 1 ∷ 2 ∷ 3 ∷ 4 ∷ 6 ∷ 6 ∷ [])
-    ∷ figure (lookupForC (bytesLookup [] 0) ∷ lookupForC (bytesLookup (0 ∷ []) 0) ∷ []) (720896 ∷ 720896 ∷ [])
-    ∷ one (lookupForC (bytesLookup (runBytes (0 ∷ dotted 1 2 3 4 ∷ []) (5 ∷ 1542 ∷ [])) (dotted 1 2 3 3))) 5
-    ∷ one (lookupForC (bytesLookup (runBytes (0 ∷ dotted 1 2 3 4 ∷ []) (5 ∷ 1542 ∷ [])) (dotted 1 2 3 4))) 1542
+    ∷ figure (bytesLookup [] 0 .number ∷ bytesLookup (0 ∷ []) 0 .number ∷ bytesLookup (0 ∷ []) 0 .last ∷ []) (11 ∷ 11 ∷ 0 ∷ [])
+    ∷ figure (heldForC [] 0 (9 ∷ []) .answer ∷ heldForC (0 ∷ []) 0 (9 ∷ 9 ∷ 9 ∷ 9 ∷ []) .answer ∷ []) (720896 ∷ 720896 ∷ [])
+    ∷ figure (heldForC (0 ∷ []) 0 (9 ∷ 9 ∷ 9 ∷ 9 ∷ []) .last) (9 ∷ 9 ∷ 9 ∷ 9 ∷ [])
+    ∷ one (heldForC (runBytes (0 ∷ dotted 1 2 3 4 ∷ []) (5 ∷ 1542 ∷ [])) (dotted 1 2 3 3) (9 ∷ 9 ∷ 9 ∷ 9 ∷ []) .answer) 5
+    ∷ one (heldForC (runBytes (0 ∷ dotted 1 2 3 4 ∷ []) (5 ∷ 1542 ∷ [])) (dotted 1 2 3 4) (9 ∷ 9 ∷ 9 ∷ 9 ∷ []) .answer) 1542
+    -- Rule 7.9: the last address in the first of the lent bytes, those of the last run's end, and 13 for three, which stay.
+    ∷ figure (heldForC (runBytes (0 ∷ dotted 1 2 3 4 ∷ []) (5 ∷ 1542 ∷ [])) (dotted 1 2 3 3) (9 ∷ 9 ∷ 9 ∷ 9 ∷ 9 ∷ []) .last)
+    (1 ∷ 2 ∷ 3 ∷ 3 ∷ 9 ∷ [])
+    ∷ figure (heldForC (runBytes (0 ∷ dotted 1 2 3 4 ∷ []) (5 ∷ 1542 ∷ [])) (dotted 1 2 3 4) (9 ∷ 9 ∷ 9 ∷ 9 ∷ []) .last)
+    (255 ∷ 255 ∷ 255 ∷ 255 ∷ [])
+    ∷ one (heldForC (runBytes (0 ∷ []) (5 ∷ [])) 0 (9 ∷ 9 ∷ 9 ∷ []) .answer) 851968
+    ∷ figure (heldForC (runBytes (0 ∷ []) (5 ∷ [])) 0 (9 ∷ 9 ∷ 9 ∷ []) .last) (9 ∷ 9 ∷ 9 ∷ [])
+    -- Rule 7.10: over slices the last address is in a lent number, which a refusal leaves.
+    ∷ one (probedForC (runLookup (runsLent 2 (0 ∷ 5 ∷ []) (1 ∷ 2 ∷ [])) 4) 9 .last) 4
+    ∷ one (probedForC (runLookup (runsLent 0 [] []) 4) 9 .last) 9
     -- Rules 9.11 to 9.13: A's segment at 200.27.112.170 and at its ends; too wide, no words, no bases, no hops, a first bit of 0, hop 0.
     ∷ one (packedLookup (segmentLent 4 (35265 ∷ []) (0 ∷ []) (3 ∷ 1 ∷ 2 ∷ 1 ∷ 3 ∷ 2 ∷ [])) (dotted 200 27 112 170) .hop) 2
     ∷ one (packedLookup (segmentLent 4 (35265 ∷ []) (0 ∷ []) (3 ∷ 1 ∷ 2 ∷ 1 ∷ 3 ∷ 2 ∷ [])) (dotted 200 27 0 0) .hop) 3

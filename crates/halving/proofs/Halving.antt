@@ -1,6 +1,6 @@
 -- The laws of `halving`, over any function from places to starts, in no order: the loop ends by itself within n turns; its probes are never
--- more than the least p with 2^p at least n; it ends at a place below n, whose start is at most the address if the first start is; and
--- the start after that one is above the address. `Halfway` is what code that halves keeps true from turn to turn.
+-- more than the least p with 2^p at least n; it ends with low below n, whose start is at most the address if the first start is, and with
+-- high one above low, whose start is above the address unless high is n. `Halfway` is what code that halves keeps true from turn to turn.
 -- Assumes nothing.
 use mathlib.Core.Path.{_≡_, refl, sym, ap, _∙_}
 use mathlib.Core.Bool.{Bool, true, false, cond}
@@ -10,19 +10,19 @@ use native.Mathlib.Numerals.{add-one}
 use native.Mathlib.Omega.{arith}
 use lib.Dec.{leb, ltb}
 use borrow.Author.Tests.{leb-true, leb-false, le-leb, lt-leb, ltb-true, ltb-false}
-use Rattle.halving.specs.Halving.{probed, halves, halving}
+use Rattle.halving.specs.Halving.{Halved, probed, halves, halving}
 use Rattle.halving.specs.Narrowed.{Narrowed}
 
--- how the loop goes from low and high on: it ends at the place `found` after `probes` more probes
-pub data Ends (at : ℕ → ℕ) (a : ℕ) : ℕ → ℕ → ℕ → ℕ → Type 0 where
-  near : {low high : ℕ} → high - low ≤ 1 → Ends at a low high low 0
-  up : {low high found probes : ℕ} → 1 < high - low → at ((low + high) / 2) ≤ a
-      → Ends at a ((low + high) / 2) high found probes → Ends at a low high found (suc probes)
-  down : {low high found probes : ℕ} → 1 < high - low → a < at ((low + high) / 2)
-      → Ends at a low ((low + high) / 2) found probes → Ends at a low high found (suc probes)
+-- how the loop goes from low and high on: it ends with low at `found` and high at `top` after `probes` more probes
+pub data Ends (at : ℕ → ℕ) (a : ℕ) : ℕ → ℕ → ℕ → ℕ → ℕ → Type 0 where
+  near : {low high : ℕ} → high - low ≤ 1 → Ends at a low high low high 0
+  up : {low high found top probes : ℕ} → 1 < high - low → at ((low + high) / 2) ≤ a
+      → Ends at a ((low + high) / 2) high found top probes → Ends at a low high found top (suc probes)
+  down : {low high found top probes : ℕ} → 1 < high - low → a < at ((low + high) / 2)
+      → Ends at a low ((low + high) / 2) found top probes → Ends at a low high found top (suc probes)
 
 module _ (at : ℕ → ℕ) (a : ℕ) where
-  pub halves-near : (turns low high : ℕ) → high - low ≤ 1 → halves turns at a low high ≡ record { low = low; probes = 0 }
+  pub halves-near : (turns low high : ℕ) → high - low ≤ 1 → halves turns at a low high ≡ record { low = low; high = high; probes = 0 }
   unfolding halves
   halves-near zero low high n = refl
   halves-near (suc turns) low high n = rw (le-leb (high - low) 1 n, halves)
@@ -37,9 +37,13 @@ module _ (at : ℕ → ℕ) (a : ℕ) where
   unfolding halves
   halves-down turns low high f l = rw (lt-leb (high - low) 1 f, halves, lt-leb (at ((low + high) / 2)) a l)
 
+-- the loop from low and high on ends with what this says
+abbrev pub EndsWith : (ℕ → ℕ) → ℕ → ℕ → ℕ → Halved → Type 0
+EndsWith at a low high h = Ends at a low high (h .low) (h .high) (h .probes)
+
 -- the loop with these turns ends by itself
 abbrev pub EndsIn : (ℕ → ℕ) → ℕ → ℕ → ℕ → ℕ → Type 0
-EndsIn at a turns low high = Ends at a low high ((halves turns at a low high) .low) ((halves turns at a low high) .probes)
+EndsIn at a turns low high = EndsWith at a low high (halves turns at a low high)
 
 -- one turn less than high and low are apart is enough
 pub halves-ends : (at : ℕ → ℕ) (a turns low high : ℕ) → high - low ≤ suc turns → EndsIn at a turns low high
@@ -60,14 +64,14 @@ halves-ends at a (suc turns) low high e =
         let l = leb-false (at ((low + high) / 2)) a d in
         rw (halves-down at a turns low high f l) (down f l w)
 
-pub halving-ends : (at : ℕ → ℕ) (n a : ℕ) → Ends at a 0 n ((halving at n a) .low) ((halving at n a) .probes)
+pub halving-ends : (at : ℕ → ℕ) (n a : ℕ) → EndsWith at a 0 n (halving at n a)
 unfolding halving
 halving-ends at n a = halves-ends at a n 0 n (omega arith)
 
 module _ {at : ℕ → ℕ} {a : ℕ} where
   -- with enough turns the loop ends as it goes
-  pub ends-halves : {low high found probes : ℕ} → Ends at a low high found probes → (turns : ℕ) → high - low ≤ suc turns
-      → halves turns at a low high ≡ record { low = found; probes = probes }
+  pub ends-halves : {low high found top probes : ℕ} → Ends at a low high found top probes → (turns : ℕ) → high - low ≤ suc turns
+      → halves turns at a low high ≡ record { low = found; high = top; probes = probes }
   ends-halves (near {low} {high} n) turns e = halves-near at a turns low high n
   ends-halves (up f l r) zero e = absurd (omega arith)
   ends-halves (up {low} {high} f l r) (suc turns) e = halves-up at a turns low high f l ∙ ap probed (ends-halves r turns (omega arith))
@@ -75,32 +79,37 @@ module _ {at : ℕ → ℕ} {a : ℕ} where
   ends-halves (down {low} {high} f l r) (suc turns) e = halves-down at a turns low high f l ∙ ap probed (ends-halves r turns (omega arith))
 
   -- a distance of at most 2^p is halved at most p times
-  ends-probes : {low high found probes : ℕ} → Ends at a low high found probes → (p : ℕ) → high - low ≤ 2 ^ p → probes ≤ p
+  ends-probes : {low high found top probes : ℕ} → Ends at a low high found top probes → (p : ℕ) → high - low ≤ 2 ^ p → probes ≤ p
   ends-probes (near n) p h = zero-le
   ends-probes (up f l r) zero h = absurd (omega arith)
   ends-probes (up f l r) (suc p) h = omega (arith, ends-probes r p (omega arith))
   ends-probes (down f l r) zero h = absurd (omega arith)
   ends-probes (down f l r) (suc p) h = omega (arith, ends-probes r p (omega arith))
 
-  ends-below : {low high found probes : ℕ} → Ends at a low high found probes → low < high → found < high
-  ends-below (near n) h = h
-  ends-below (up f l r) h = ends-below r (omega arith)
-  ends-below (down f l r) h = omega (arith, ends-below r (omega arith))
-
-  ends-at-most : {low high found probes : ℕ} → Ends at a low high found probes → at low ≤ a → at found ≤ a
+  ends-at-most : {low high found top probes : ℕ} → Ends at a low high found top probes → at low ≤ a → at found ≤ a
   ends-at-most (near n) h = h
   ends-at-most (up f l r) h = ends-at-most r l
   ends-at-most (down f l r) h = ends-at-most r h
 
-  ends-next : {low high found probes : ℕ} → Ends at a low high found probes → low < high → (n : ℕ) → high ≤ n → (high < n → a < at high)
-      → found + 1 < n → a < at (found + 1)
-  ends-next (near {low} {high} e) h n hn top l = let same : low + 1 ≡ high = omega arith in rw same (top (rw same at l))
-  ends-next (up f l r) h n hn top k = ends-next r (omega arith) n hn top k
-  ends-next (down f l r) h n hn top k = ends-next r (omega arith) n (omega arith) (λ m. l) k
+  ends-next : {low high found top probes : ℕ} → Ends at a low high found top probes → low < high → top ≡ found + 1
+  ends-next (near n) h = omega arith
+  ends-next (up f l r) h = ends-next r (omega arith)
+  ends-next (down f l r) h = ends-next r (omega arith)
+
+  ends-within : {low high found top probes : ℕ} → Ends at a low high found top probes → top ≤ high
+  ends-within (near {low} {high} n) = le-refl high
+  ends-within (up f l r) = ends-within r
+  ends-within (down f l r) = omega (arith, ends-within r)
+
+  ends-above : {low high found top probes : ℕ} → Ends at a low high found top probes → (n : ℕ) → (high < n → a < at high)
+      → top < n → a < at top
+  ends-above (near e) n above = above
+  ends-above (up f l r) n above = ends-above r n above
+  ends-above (down f l r) n above = ends-above r n (λ m. l)
 
   -- the loop sees no place from high on
-  ends-agree : (other : ℕ → ℕ) {low high found probes : ℕ} → Ends at a low high found probes → ((i : ℕ) → i < high → at i ≡ other i)
-      → Ends other a low high found probes
+  ends-agree : (other : ℕ → ℕ) {low high found top probes : ℕ} → Ends at a low high found top probes
+      → ((i : ℕ) → i < high → at i ≡ other i) → Ends other a low high found top probes
   ends-agree other (near n) same = near n
   ends-agree other (up {low} {high} f l r) same = up f (rw (same ((low + high) / 2) (omega arith)) at l) (ends-agree other r same)
   ends-agree other (down {low} {high} f l r) same =
@@ -113,21 +122,41 @@ module _ (at : ℕ → ℕ) (n a : ℕ) where
   pub low-at-most : at 0 ≤ a → at ((halving at n a) .low) ≤ a
   low-at-most = ends-at-most (halving-ends at n a)
 
-  pub low-below : 1 ≤ n → (halving at n a) .low < n
-  low-below = ends-below (halving-ends at n a)
+  pub high-next : 1 ≤ n → (halving at n a) .high ≡ (halving at n a) .low + 1
+  high-next = ends-next (halving-ends at n a)
 
-  pub next-above : 1 ≤ n → (halving at n a) .low + 1 < n → a < at ((halving at n a) .low + 1)
-  next-above h = ends-next (halving-ends at n a) h n (le-refl n) (λ l. absurd (omega arith))
+  pub high-at-most : (halving at n a) .high ≤ n
+  high-at-most = ends-within (halving-ends at n a)
+
+  pub low-below : 1 ≤ n → (halving at n a) .low < n
+  low-below h = omega (arith, high-next h, high-at-most)
+
+  pub high-above : (halving at n a) .high < n → a < at ((halving at n a) .high)
+  high-above = ends-above (halving-ends at n a) n (λ l. absurd (omega arith))
 
   pub halving-agrees : (other : ℕ → ℕ) → ((i : ℕ) → i < n → at i ≡ other i) → halving at n a ≡ halving other n a
   unfolding halving
   halving-agrees other same = sym (ends-halves (ends-agree other (halving-ends at n a) same) n (omega arith))
 
+-- what code that has halved knows of where it ended: low is a place, high is one or n, and one less than the start at high is a number
+pub record Places (at : ℕ → ℕ) (n : ℕ) (h : Halved) : Type 0 where
+  pub low-in : h .low < n
+  pub high-in : h .high ≤ n
+  pub above-none : h .high < n → 0 < at (h .high)
+
+pub halved-places : (at : ℕ → ℕ) (n a : ℕ) {h : Halved} → 0 < n → h ≡ halving at n a → Places at n h
+halved-places at n a some is = rw is (record {
+  low-in = low-below at n a some;
+  high-in = high-at-most at n a;
+  above-none = λ l. omega (arith, high-above at n a l);
+})
+
 -- what code that halves keeps true after `probes` probes: however the loop goes from low and high on, halving ends there
 pub record Halfway (at : ℕ → ℕ) (n a low high probes : ℕ) : Type 0 where
   pub apart : low < high
   pub within : high ≤ n
-  pub goes-on : {found more : ℕ} → Ends at a low high found more → halving at n a ≡ record { low = found; probes = probes + more }
+  pub goes-on : {found top more : ℕ} → Ends at a low high found top more
+      → halving at n a ≡ record { low = found; high = top; probes = probes + more }
 
 pub halfway-start : (at : ℕ → ℕ) (n a : ℕ) → 1 ≤ n → Halfway at n a 0 n 0
 unfolding halving
@@ -138,7 +167,7 @@ halfway-start at n a h = record {
 }
 
 module _ {at : ℕ → ℕ} {n a low high probes : ℕ} (s : Halfway at n a low high probes) where
-  pub halfway-end : high - low ≤ 1 → halving at n a ≡ record { low = low; probes = probes }
+  pub halfway-end : high - low ≤ 1 → halving at n a ≡ record { low = low; high = high; probes = probes }
   halfway-end h = s .goes-on (near h) ∙ rw add-zero
 
   -- the probes counted so far are at most halving's
@@ -181,10 +210,11 @@ module _ {at : ℕ → ℕ} {n a place apart probes : ℕ} (s : Probing at n a p
   pub probing-bounds : (apart / 2 ≤ place) × (place + (apart - apart / 2) ≤ n) × (0 < apart)
   probing-bounds = (omega (arith, s .next), omega (arith, s .next, s .halfway .within), omega (arith, s .halfway .apart))
 
-  pub probing-end : apart ≤ 1 → halving at n a ≡ record { low = place; probes = probes }
+  pub probing-end : apart ≤ 1 → halving at n a ≡ record { low = place; high = place + 1; probes = probes }
   probing-end close =
-      let same : place ≡ s .low = omega (arith, s .next) in
-      rw same (halfway-end (s .halfway) (omega arith))
+      let low-is : place ≡ s .low = omega (arith, s .next) in
+      let one : apart ≡ 1 = omega (arith, s .halfway .apart) in
+      rw (low-is, ← one) (halfway-end (s .halfway) (omega arith))
 
   pub probing-probes : (p : ℕ) → n ≤ 2 ^ p → probes ≤ p
   probing-probes = halfway-probes (s .halfway)

@@ -3,6 +3,7 @@
 use mathlib.Core.Path.{_≡_}
 use mathlib.Core.List.{List, []}
 use Prim.Native.Nat.{ℕ, _+_, _*_, _≤_}
+use native.Mathlib.Nat.{zero-add}
 use native.Mathlib.Omega.{arith}
 use Rattle.routes.specs.declared.Looked.{Looked}
 use Rattle.routes.specs.declared.Looked.the-variants as L
@@ -22,8 +23,8 @@ use Rattle.split.specs.Split.{SplitOutcome, splitGave}
 use Rattle.text.specs.declared.Written.{Written}
 use Rattle.text.specs.declared.Written.the-variants as W
 use Rattle.text.specs.Text.{WriteOutcome, writeGave}
-use Rattle.host.specs.Exports.{lookupForC, runLookupForC, builtForC, buildGaveC, buildForC, writtenForC, writeGaveC, writeForC}
-use Rattle.host.specs.Exports.{partedForC, splitGaveC, splitForC}
+use Rattle.host.specs.Exports.{lookupForC, runLookupForC, probedGaveC, probedForC, builtForC, buildGaveC, buildForC}
+use Rattle.host.specs.Exports.{writtenForC, writeGaveC, writeForC, partedForC, splitGaveC, splitForC}
 
 module _ (r : Looked) where
   pub hop-carried : {h : ℕ} → r ≡ L.Hop h → h ≡ lookupForC (lookupGave r)
@@ -44,16 +45,16 @@ module _ (r : PackedHop) where
   outside-carried e = rw e (omega arith)
 
 module _ (r : Probed) where
-  pub few-probes : {h p : ℕ} → r ≡ P.Hop h p → runLookupGave r .probes ≤ 64 → p ≤ 64
-  few-probes e l = rw e at l
+  pub few-probes : {h l p : ℕ} → r ≡ P.Hop h l p → runLookupGave r .probes ≤ 64 → p ≤ 64
+  few-probes e few = rw e at few
 
-  pub probed-carried : {h p : ℕ} → r ≡ P.Hop h p → 4294967296 * p + h ≡ runLookupForC (runLookupGave r)
-  unfolding runLookupForC
-  probed-carried e = rw e (omega arith)
+  pub probed-carried : {h l p : ℕ} → r ≡ P.Hop h l p → (last : ℕ) → probedGaveC (4294967296 * p + h) l ≡ probedForC (runLookupGave r) last
+  unfolding runLookupForC probedForC
+  probed-carried e last = rw (e, zero-add)
 
-  pub no-runs-carried : r ≡ P.IllFormed → 720896 ≡ runLookupForC (runLookupGave r)
-  unfolding runLookupForC
-  no-runs-carried e = rw e (omega arith)
+  pub no-runs-carried : r ≡ P.IllFormed → (last : ℕ) → probedGaveC 720896 last ≡ probedForC (runLookupGave r) last
+  unfolding runLookupForC probedForC
+  no-runs-carried e last = rw e
 
 module _ (r : Built) where
   pub runs-carried : {n : ℕ} → r ≡ B.Runs n → n ≡ builtForC (buildGave r [] [])

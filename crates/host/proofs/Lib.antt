@@ -1,4 +1,5 @@
 mod Carried
+mod HeldCarried
 mod EditCarried
 mod ImportCarried
 mod PackCarried

@@ -1,5 +1,6 @@
--- What C gets from an import, a pull, a build, a packing, an edit, a list writer and a split is settled: two outcomes that keep the promise
--- for one input are the same, in what is returned and in each lent slice. The lookups and the pair check promise an equation.
+-- What C gets from an import, a pull, a run lookup, a build, a packing, an edit, a list writer and a split is settled: two outcomes that
+-- keep the promise for one input are the same, in what is returned and in all lent memory. The other lookups and the pair check promise an
+-- equation.
 -- Assumes nothing.
 use mathlib.Core.Path.{_≡_, sym, ap, _∙_}
 use mathlib.Core.List.{List}
@@ -13,7 +14,7 @@ use Rattle.host.specs.declared.WhelkCounts.{WhelkCounts}
 use Rattle.host.specs.declared.WhelkPacked.{WhelkPacked}
 use Rattle.host.specs.declared.edits.WhelkEdit.{WhelkEdit}
 use Rattle.host.specs.declared.rows.WhelkRow.{WhelkRow}
-use Rattle.host.specs.Exports.{pullForC, HostTallyGave}
+use Rattle.host.specs.Exports.{pullForC, HostTallyGave, ProbedForC, probedGaveC, HeldForC, heldGaveC}
 use Rattle.host.specs.Exports.{hostImportGave, hostPackGave, hostEditGave, BuildForC, buildGaveC, WriteForC, writeGaveC, SplitForC, splitGaveC}
 use Rattle.host.proofs.ImportCarried.{toC}
 
@@ -41,6 +42,14 @@ host-tally-settled feed l t r r′ k k′ h h′ p p′ t₁ t₂ a b = (
   a .report-left ∙ sym (b .report-left),
   a .tally-left ∙ sym (b .tally-left),
 )
+
+pub host-probed-settled : (o : ProbedForC) (r r′ l l′ : ℕ) → probedGaveC r l ≡ o → probedGaveC r′ l′ ≡ o → (r ≡ r′) × (l ≡ l′)
+host-probed-settled o r r′ l l′ e e′ =
+    let same = e ∙ sym e′ in
+    (ap (λ (x : ProbedForC). x .answer) same, ap (λ (x : ProbedForC). x .last) same)
+
+pub host-held-settled : (o : HeldForC) (r r′ : ℕ) (l l′ : List ℕ) → heldGaveC r l ≡ o → heldGaveC r′ l′ ≡ o → (r ≡ r′) × (l ≡ l′)
+host-held-settled o r r′ l l′ e e′ = let same = e ∙ sym e′ in (ap (λ (x : HeldForC). x .answer) same, ap (λ (x : HeldForC). x .last) same)
 
 pub host-build-settled : (o : BuildForC) (r r′ : ℕ) (s s′ h h′ : List ℕ) → buildGaveC r s h ≡ o → buildGaveC r′ s′ h′ ≡ o
     → (r ≡ r′) × (s ≡ s′) × (h ≡ h′)

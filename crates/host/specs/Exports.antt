@@ -1,17 +1,22 @@
 -- Rules 7.9 and 7.10: what the exports return to C. An import, a pull, a packing and an edit give a struct, and each other call puts its
--- numbers into one.
+-- numbers into one. A run lookup leaves the last address in lent memory.
 -- Assumes nothing.
 use mathlib.Core.Path.{_≡_}
-use mathlib.Core.List.{List, [], _∷_}
+use mathlib.Core.Bool.{cond}
+use mathlib.Core.List.{List, [], _∷_, _++_}
 use mathlib.Core.Option.{Option, none, some}
-use Prim.Native.Nat.{ℕ, _+_, _*_}
-use Rattle.routes.specs.Lookup.{LookupOutcome}
+use Prim.Native.Nat.{ℕ, _+_, _*_, _/_, _%_}
+use lib.ListN.{length}
+use lib.Dec.{ltb, eqb}
+use Rattle.ground.specs.Numbers.{Check, check, outcome, done, noRoom}
+use Rattle.ground.specs.Slots.{written}
+use Rattle.routes.specs.Lookup.{LookupOutcome, lookedUp}
 use Rattle.feed.specs.declared.Counts.{Counts}
 use Rattle.feed.specs.Import.{ImportLent, ImportOutcome, import, importTally}
 use Rattle.feed.specs.Reading.{Reading, good, bad}
 use Rattle.feed.specs.Pull.{Pulled}
 use Rattle.runs.specs.Build.{BuildOutcome}
-use Rattle.runs.specs.Lookup.{RunLookupOutcome}
+use Rattle.runs.specs.Lookup.{RunLookupOutcome, bytesChecks, bytesLookup}
 use Rattle.segment.specs.Pack.{PackOutcome}
 use Rattle.edit.specs.Edit.{Edited, editOutcome}
 use Rattle.split.specs.Split.{SplitOutcome}
@@ -75,6 +80,39 @@ lookupForC o = 65536 * o .number + o .hop
 -- Rule 7.10: a run lookup over slices gives C hop + 65,536 × number + 4,294,967,296 × probes.
 unfoldable pub runLookupForC : RunLookupOutcome → ℕ
 runLookupForC o = 4294967296 * o .probes + (65536 * o .number + o .hop)
+
+-- what a run lookup over slices returns to C and leaves: the one number, and the number lent for the last address
+pub record ProbedForC : Type 0 where
+  pub answer : ℕ
+  pub last : ℕ
+
+abbrev pub probedGaveC : ℕ → ℕ → ProbedForC
+probedGaveC answer last = record { answer = answer; last = last }
+
+-- Rule 5.4: a refusal leaves the lent number.
+unfoldable pub probedForC : RunLookupOutcome → ℕ → ProbedForC
+probedForC o last = probedGaveC (runLookupForC o) (cond (eqb (o .number) done) (o .last) last)
+
+-- an address in four bytes, the highest in front
+abbrev pub addressBytes : ℕ → List ℕ
+addressBytes a = a / 16777216 ∷ a / 65536 % 256 ∷ a / 256 % 256 ∷ a % 256 ∷ []
+
+-- Rule 7.9: the lookup over run bytes is lent bytes for the last address. After its own checks it gives 13 for fewer than four.
+unfoldable pub heldChecks : List ℕ → List ℕ → List Check
+heldChecks bytes last = bytesChecks bytes ++ (check (ltb (length last) 4) noRoom ∷ [])
+
+-- what it returns to C and leaves: the one number, and the lent bytes
+pub record HeldForC : Type 0 where
+  pub answer : ℕ
+  pub last : List ℕ
+
+abbrev pub heldGaveC : ℕ → List ℕ → HeldForC
+heldGaveC answer last = record { answer = answer; last = last }
+
+-- Rule 7.9: hop + 65,536 × number, and the last address in the first four bytes. Rule 5.4: a refusal leaves the bytes.
+unfoldable pub heldForC : List ℕ → ℕ → List ℕ → HeldForC
+heldForC bytes a last = outcome (heldChecks bytes last) (λ n. heldGaveC (lookupForC (lookedUp n 0)) last)
+    (heldGaveC (lookupForC (lookedUp done (bytesLookup bytes a .hop))) (written (addressBytes (bytesLookup bytes a .last)) last))
 
 -- Rule 7.10: a build gives C count + 4,294,967,296 × number.
 unfoldable pub builtForC : BuildOutcome → ℕ

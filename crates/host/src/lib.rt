@@ -1,20 +1,23 @@
-// The C interface: the library's entries over memory that the host lends, each with one number or one plain struct back. It adds no rule of
-// its own; include/whelkhollow.h declares what is exported here.
+// The C interface: the library's entries over memory that the host lends, each with one number or one plain struct back. It adds no rule but
+// 7.9 and 7.10; include/whelkhollow.h declares what is exported here.
 pub mod checks;
 pub mod edits;
 pub mod rows;
 
-ghost use Rattle.host.specs.Exports.{hostImportGave, lookupForC, runLookupForC, builtForC, buildGaveC, buildForC};
+ghost use Rattle.host.specs.Exports.{hostImportGave, lookupForC, builtForC, buildGaveC, buildForC};
+ghost use Rattle.host.specs.Exports.{probedGaveC, probedForC, addressBytes, heldGaveC, heldForC};
 ghost use Rattle.host.specs.Exports.{hostPackGave, writtenForC, writeGaveC, writeForC, partedForC, splitGaveC, splitForC};
 ghost use mathlib.Core.Path.{_≡_};
 ghost use mathlib.Core.List.{[]};
 ghost use Prim.Native.Nat.{_≤_};
+ghost use lib.ListN.{length};
+ghost use Rattle.ground.specs.Slots.{written};
 ghost use Rattle.feed.specs.Import.{import, endNumber};
 ghost use Rattle.routes.specs.Row.{listLent};
 ghost use Rattle.routes.specs.Lookup.{lookupGave, plainLookup, halfLookup};
 ghost use Rattle.runs.specs.Table.{runsLent};
 ghost use Rattle.runs.specs.Build.{slotsLent, buildGave, build, buildHalf};
-ghost use Rattle.runs.specs.Lookup.{runLookupGave, runLookup, bytesLookup};
+ghost use Rattle.runs.specs.Lookup.{runLookupGave, runLookup};
 ghost use Rattle.runs.specs.Pair.{pair};
 ghost use Rattle.segment.specs.Pack.{packLent, packRefused, packGave, pack};
 ghost use Rattle.segment.specs.Lookup.{segmentLent, packedGave, packedLookup};
@@ -23,6 +26,7 @@ ghost use Rattle.text.specs.Text.{writeGave, write};
 use feed::ImportEnd;
 use routes::Looked;
 use runs::Built;
+use runs::Held;
 use runs::Probed;
 use segment::PackedHop;
 use segment::Packing;
@@ -86,6 +90,8 @@ pub const NUMBER_UNIT: u32 = 65536;
 
 pub const LOOKUP_ILL_FORMED: u32 = NUMBER_UNIT * ground::ILL_FORMED;
 
+pub const LOOKUP_NO_ROOM: u32 = NUMBER_UNIT * ground::NO_ROOM;
+
 pub const LOOKUP_OUTSIDE: u32 = NUMBER_UNIT * ground::OUTSIDE_PACKED;
 
 // A build's number stands above its count, and a run lookup's probes above its number and hop.
@@ -101,15 +107,29 @@ fn lookup_for_c(r: Looked) -> u32
     }
 }
 
-// Rule 7.10: a run lookup over slices gives C hop + 65,536 × number + 4,294,967,296 × probes.
-fn run_lookup_for_c(r: Probed) -> u64
+// Rule 7.10: a run lookup over slices gives C hop + 65,536 × number + 4,294,967,296 × probes, and leaves the last address in a lent number.
+fn probed_for_c(r: Probed, out: &mut u32) -> u64
     requires { ⌜ runLookupGave r .probes ≤ 64 ⌝ }
-    ensures { λ n. ⌜ n ≡ runLookupForC (runLookupGave r) ⌝ }
+    ensures { λ n. ⌜ probedGaveC n (now (out .exit)) ≡ probedForC (runLookupGave r) (now (out .entry)) ⌝ }
 {
     match r {
-        Probed::Hop { hop, probes } => HIGH_UNIT * (probes as u64) + hop as u64,
+        Probed::Hop { hop, last, probes } => {
+            *out = last;
+            HIGH_UNIT * (probes as u64) + hop as u64
+        }
         Probed::IllFormed => LOOKUP_ILL_FORMED as u64,
     }
+}
+
+// An address into the first four bytes of a slice, the highest in front.
+fn put_address(a: u32, out: &mut [u8])
+    requires { ⌜ 4 ≤ length (now out) ⌝ }
+    ensures { λ r. ⌜ now (out .exit) ≡ written (addressBytes a) (now (out .entry)) ⌝ }
+{
+    out[0] = (a / 16777216) as u8;
+    out[1] = (a / 65536 % 256) as u8;
+    out[2] = (a / 256 % 256) as u8;
+    out[3] = (a % 256) as u8;
 }
 
 // Rule 7.10: a build gives C count + 4,294,967,296 × number.
@@ -131,20 +151,37 @@ pub extern "C" fn whelk_plain_lookup(count: usize, keys: &[u64], hops: &[u16], a
     lookup_for_c(routes::plain_lookup(count, keys, hops, a))
 }
 
-// Rule 7.8: lookup over run bytes.
+// Rules 7.8 and 7.9: lookup over run bytes, with the last address in the first four lent bytes; 13 for fewer.
 #[no_mangle]
-pub extern "C" fn whelk_run_lookup(bytes: &[u8], a: u32) -> u32
-    ensures { λ r. ⌜ r ≡ lookupForC (bytesLookup (now (bytes .entry)) a) ⌝ }
+pub extern "C" fn whelk_run_lookup(bytes: &[u8], a: u32, out: &mut [u8]) -> u32
+    ensures { λ r. ⌜ heldGaveC r (now (out .exit)) ≡ heldForC (now (bytes .entry)) a (now (out .entry)) ⌝ }
 {
-    lookup_for_c(runs::bytes_lookup(bytes, a))
+    match runs::bytes_lookup(bytes, a) {
+        Held::Hop { hop, last } => {
+            if out.len() < 4 {
+                return LOOKUP_NO_ROOM;
+            }
+            put_address(last, out);
+            hop as u32
+        }
+        Held::IllFormed => LOOKUP_ILL_FORMED,
+    }
 }
 
-// Rule 7.4: run lookup over the first `n` runs of lent starts and hops.
+// Rule 7.4: run lookup over the first `n` runs of lent starts and hops, with the last address in a lent number.
 #[no_mangle]
-pub extern "C" fn whelk_run_lookup_slices(n: usize, starts: &[u32], hops: &[u16], a: u32) -> u64
-    ensures { λ r. ⌜ r ≡ runLookupForC (runLookup (runsLent n (now (starts .entry)) (now (hops .entry))) a) ⌝ }
+pub extern "C" fn whelk_run_lookup_slices(
+    n: usize,
+    starts: &[u32],
+    hops: &[u16],
+    a: u32,
+    out: &mut u32,
+) -> u64
+    ensures { λ r.
+        ⌜ probedGaveC r (now (out .exit))
+        ≡ probedForC (runLookup (runsLent n (now (starts .entry)) (now (hops .entry))) a) (now (out .entry)) ⌝ }
 {
-    run_lookup_for_c(runs::run_lookup(n, starts, hops, a))
+    probed_for_c(runs::run_lookup(n, starts, hops, a), out)
 }
 
 // Rule 6.6: the run table of a list into lent starts and hops.

@@ -1,6 +1,6 @@
 -- Rule 17.2, demand 2, from the contracts alone: where a build was accepted, run lookup in what it left gives at every address what plain
--- lookup gives, and of a half what half lookup gives. An accepted build leaves the run table of its rows, and both lookups give their plain
--- answer.
+-- lookup gives, and of a half what half lookup gives, and its last address is how far that hop holds. An accepted build leaves the run
+-- table of its rows, and both lookups give their plain answer.
 -- Assumes nothing.
 use mathlib.Core.Path.{_≡_, sym, ap, _∙_}
 use mathlib.Core.Logic.{⊎-elim}
@@ -25,6 +25,7 @@ use Rattle.runs.specs.Table.{runsLent, runStarts, runHops, startsOf, run
 use Rattle.runs.specs.Build.{SlotsLent, BuildOutcome, built, buildGave, buildOf, build, buildHalf}
 use Rattle.runs.specs.Lookup.{RunLookupOutcome, runLookupGave, runLookup}
 use Rattle.runs.proofs.Lookups.{run-lookup-plain}
+use Rattle.runs.proofs.HoldsUntil.{HoldsUntil, holds-as, holds-until}
 use Rattle.runs.proofs.TableOutcomes.{build-ill, build-well, rows-done}
 
 same-count : (rows : List Row) → length (runHops rows) ≡ length (runStarts rows)
@@ -71,6 +72,12 @@ module _ (half : Bool) (l : ListLent) (t : SlotsLent) {n : ℕ} {starts hops : L
         ap (λ (o : RunLookupOutcome). o .hop) e ∙ found .1 ∙ sym (ap (λ (o : LookupOutcome). o .hop) e′ ∙ lookup-plain half l a well),
       )
 
+  then-holds : {a : ℕ} (r : Probed) → a < addresses → runLookupGave r ≡ runLookup (runsLent n starts hops) a
+      → HoldsUntil (λ b. lookup half l b .hop) a (runLookupGave r .last)
+  then-holds {a} r below e =
+      rw (ap (λ (o : RunLookupOutcome). o .last) e)
+      (holds-as (λ b. lookup-plain half l b well) (holds-until (rowsLent l) n starts hops count-is starts-are hops-are a below))
+
 module _ (l : ListLent) (t : SlotsLent) {n : ℕ} {starts hops : List ℕ} where
   pub build-then-lookup : buildGave (Runs n) starts hops ≡ build l t
       → {a : ℕ} (r : Probed) (p : Looked) → a < addresses → runLookupGave r ≡ runLookup (runsLent n starts hops) a
@@ -81,3 +88,13 @@ module _ (l : ListLent) (t : SlotsLent) {n : ℕ} {starts hops : List ℕ} where
       → {a : ℕ} (r : Probed) (p : Looked) → a < addresses → runLookupGave r ≡ runLookup (runsLent n starts hops) a
       → lookupGave p ≡ halfLookup l a → (runLookupGave r .number ≡ done) × (runLookupGave r .hop ≡ lookupGave p .hop)
   build-half-then-lookup b = then-lookup true l t b
+
+  pub build-then-holds : buildGave (Runs n) starts hops ≡ build l t
+      → {a : ℕ} (r : Probed) → a < addresses → runLookupGave r ≡ runLookup (runsLent n starts hops) a
+      → HoldsUntil (λ b. plainLookup l b .hop) a (runLookupGave r .last)
+  build-then-holds b = then-holds false l t b
+
+  pub build-half-then-holds : buildGave (Runs n) starts hops ≡ buildHalf l t
+      → {a : ℕ} (r : Probed) → a < addresses → runLookupGave r ≡ runLookup (runsLent n starts hops) a
+      → HoldsUntil (λ b. halfLookup l b .hop) a (runLookupGave r .last)
+  build-half-then-holds b = then-holds true l t b

@@ -1,4 +1,5 @@
--- Lookup in a run table finds the run that holds the address, so the hop there is the answer; lookup in its run bytes finds the same.
+-- Lookup in a run table finds the run that holds the address, so the hop there is the answer; lookup in its run bytes finds the same, with
+-- the same last address.
 -- Assumes nothing.
 use mathlib.Core.Path.{_≡_, refl, _∙_}
 use mathlib.Core.List.{List, [], _∷_}
@@ -6,13 +7,16 @@ use Prim.Native.Nat.{ℕ, zero, suc, _+_, _*_, _/_, _≤_, _<_}
 use native.Mathlib.Omega.{arith}
 use lib.ListN.{length, getD}
 use Rattle.ground.specs.Numbers.{firstFault, done}
-use Rattle.halving.proofs.Halving.{low-below, low-at-most, next-above, halving-agrees}
+use Rattle.halving.proofs.Halving.{low-below, low-at-most, high-next, high-at-most, high-above, halving-agrees}
 use Rattle.cidr.specs.Prefix.{addresses}
-use Rattle.routes.specs.Lookup.{lookedUp}
 use Rattle.runs.specs.Table.{RunTable}
 use Rattle.runs.specs.Bytes.{runBytes, startAt, hopAt}
-use Rattle.runs.specs.Lookup.{inSlices, inBytes, bytesChecks, bytesLookup}
-use Rattle.runs.proofs.LookupOutcomes.{sixes-accepted, bytes-looked-up}
+use Rattle.runs.specs.Lookup.{lastOf, inSlices, held, inBytes, bytesChecks, bytesLookup}
+use Rattle.runs.proofs.LookupOutcomes.{last-agrees, sixes-accepted, bytes-looked-up}
+
+-- the last address of the run that is found in a whole table
+abbrev pub lastIn : List ℕ → ℕ → ℕ
+lastIn starts a = lastOf (λ i. getD starts i 0) (length starts) (inSlices (length starts) starts a .high)
 
 -- run i holds the address
 pub record RunHolds (starts : List ℕ) (a i : ℕ) : Type 0 where
@@ -26,7 +30,7 @@ module _ {f : ℕ → ℕ} {starts hops : List ℕ} (t : RunTable f starts hops)
   place-found = record {
     in-table = low-below (λ i. getD starts i 0) (length starts) a (t .some-run);
     from = low-at-most (λ i. getD starts i 0) (length starts) a (omega arith);
-    before = next-above (λ i. getD starts i 0) (length starts) a (t .some-run);
+    before = rw (high-next (λ i. getD starts i 0) (length starts) a (t .some-run)) at (high-above (λ i. getD starts i 0) (length starts) a);
   }
 
   pub hop-found : a < addresses → getD hops ((inSlices (length starts) starts a) .low) 0 ≡ f a
@@ -74,13 +78,22 @@ run-bytes-below (x ∷ starts) (y ∷ hops) s h (suc (suc (suc (suc (suc (suc k)
     run-bytes-below starts hops (λ i m. s (suc i) (omega arith)) (λ i m. h (suc i) (omega arith)) k (omega arith)
 
 module _ (starts hops : List ℕ) (paired : length hops ≡ length starts) where
+  pub runs-in-bytes : length (runBytes starts hops) / 6 ≡ length starts
+  runs-in-bytes = omega (arith, run-bytes-length starts hops paired)
+
   pub bytes-found : (a : ℕ) → inBytes (runBytes starts hops) a ≡ inSlices (length starts) starts a
   unfolding inBytes inSlices
   bytes-found a =
-      let runs : length (runBytes starts hops) / 6 ≡ length starts = omega (arith, run-bytes-length starts hops paired) in
-      rw runs
+      rw runs-in-bytes
       (halving-agrees (startAt (runBytes starts hops)) (length starts) a (λ i. getD starts i 0)
       (λ i l. start-at starts hops i l (omega arith)))
+
+  pub last-found : (a : ℕ)
+      → lastOf (startAt (runBytes starts hops)) (length starts) (inSlices (length starts) starts a .high) ≡ lastIn starts a
+  unfolding inSlices
+  last-found a =
+      last-agrees _ _ (length starts) _ (high-at-most (λ i. getD starts i 0) (length starts) a)
+      (λ i l. start-at starts hops i l (omega arith))
 
   pub bytes-accepted : 0 < length starts → firstFault (bytesChecks (runBytes starts hops)) ≡ done
   bytes-accepted some =
@@ -88,8 +101,9 @@ module _ (starts hops : List ℕ) (paired : length hops ≡ length starts) where
       sixes-accepted (runBytes starts hops) (omega arith) (omega arith)
 
 module _ {f : ℕ → ℕ} {starts hops : List ℕ} (t : RunTable f starts hops) (a : ℕ) where
-  pub bytes-answer : a < addresses → bytesLookup (runBytes starts hops) a ≡ lookedUp done (f a)
+  pub bytes-answer : a < addresses → bytesLookup (runBytes starts hops) a ≡ held done (f a) (lastIn starts a)
   bytes-answer h =
       let found = place-found t a .in-table in
       bytes-looked-up _ a (bytes-accepted starts hops (t .paired) (t .some-run))
-      ∙ rw (bytes-found starts hops (t .paired) a, hop-at starts hops _ found (omega arith), hop-found t a h)
+      ∙ rw (bytes-found starts hops (t .paired) a, runs-in-bytes starts hops (t .paired), last-found starts hops (t .paired) a)
+      (rw (hop-at starts hops _ found (omega arith), hop-found t a h))

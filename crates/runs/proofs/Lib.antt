@@ -4,6 +4,7 @@ pub mod LookupOutcomes
 pub mod Lookups
 pub mod WholeList
 pub mod TableOutcomes
+pub mod HoldsUntil
 pub mod Settled
 pub mod BuildThenLookup
 pub mod Agreed

@@ -1,27 +1,56 @@
--- What a run lookup's outcome is, case by case: 11 where there are no runs or more than the slices hold, else the hop where halving ends
--- and its probes; and the same over run bytes. `RunsHalved` is what code that halves run bytes keeps true. An outcome is one answer's.
+-- What a run lookup's outcome is, case by case: 11 where there are no runs or more than the slices hold, else the hop at low where halving
+-- ends, the last address by the start at high, and the probes; and the same over run bytes. An outcome is one answer's.
 -- Assumes nothing.
 use mathlib.Core.Path.{_≡_, refl, sym, ap, _∙_}
 use mathlib.Core.Bool.{Bool, true, false, cond}
 use mathlib.Core.List.{List}
-use Prim.Native.Nat.{ℕ, _+_, _*_, _/_, _%_, _^_, _≤_, _<_, min, zero-le}
-use native.Mathlib.Nat.{add-zero}
+use Prim.Native.Nat.{ℕ, _-_, _/_, _%_, _^_, _≤_, _<_, min, zero-le}
 use native.Mathlib.Omega.{arith}
 use lib.ListN.{length, getD}
-use lib.Dec.{eqb, ltb}
-use borrow.Author.Tests.{eq-eqb, ne-eqb, lt-ltb, le-ltb}
+use lib.Dec.{eqb}
+use borrow.Author.Tests.{eqb-false, eq-eqb, ne-eqb, lt-ltb, le-ltb}
 use Rattle.ground.specs.Numbers.{firstFault, outcome, done, illFormed}
 use Rattle.ground.proofs.Truth.{or-right}
 use Rattle.ground.proofs.Numbers.{outcome-done, outcome-refused}
-use Rattle.halving.specs.Halving.{halving}
-use Rattle.halving.specs.Narrowed.{Narrowed}
-use Rattle.halving.proofs.Halving.{probes-at-most, Probing, probing-start, probing-narrowed, probing-end}
-use Rattle.routes.specs.Lookup.{lookedUp}
+use Rattle.halving.specs.Halving.{Halved}
+use Rattle.halving.proofs.Halving.{Places, halved-places, probes-at-most}
 use Rattle.runs.specs.declared.Probed.{Probed}
-use Rattle.runs.specs.declared.Probed.the-variants.{Hop, IllFormed}
+use Rattle.runs.specs.declared.Probed.the-variants as P
+use Rattle.runs.specs.declared.Held.{Held}
+use Rattle.runs.specs.declared.Held.the-variants as H
 use Rattle.runs.specs.Table.{RunsLent}
 use Rattle.runs.specs.Bytes.{startAt, hopAt}
-use Rattle.runs.specs.Lookup.{RunLookupOutcome, probed, runLookupGave, inSlices, runChecks, runLookup, inBytes, bytesChecks, bytesLookup}
+use Rattle.runs.specs.Lookup.{lastOf, RunLookupOutcome, probed, runLookupGave, inSlices, runChecks, runLookup}
+use Rattle.runs.specs.Lookup.{BytesLookupOutcome, held, bytesLookupGave, inBytes, bytesChecks, bytesLookup}
+
+-- the last address: of the last run, and of another
+module _ (at : ℕ → ℕ) (n high : ℕ) where
+  pub last-of-all : high ≡ n → 4294967295 ≡ lastOf at n high
+  unfolding lastOf
+  last-of-all e = rw (eq-eqb high n e)
+
+  pub last-before : high < n → at high - 1 ≡ lastOf at n high
+  unfolding lastOf
+  last-before l = rw (ne-eqb high n (omega arith))
+
+-- places below n alone have a say
+pub last-agrees : (at other : ℕ → ℕ) (n high : ℕ) → high ≤ n → ((i : ℕ) → i < n → at i ≡ other i) → lastOf at n high ≡ lastOf other n high
+unfolding lastOf
+last-agrees at other n high within same = go (eqb high n) refl
+  where
+    go : (b : Bool) → eqb high n ≡ b → cond b 4294967295 (at high - 1) ≡ cond b 4294967295 (other high - 1)
+    go true e = refl
+    go false e = rw (same high (omega (arith, eqb-false high n e)))
+
+-- where halving ends
+pub slices-places : (n a : ℕ) (starts : List ℕ) {h : Halved} → h ≡ inSlices n starts a → 0 < n → Places (λ i. getD starts i 0) n h
+unfolding inSlices
+slices-places n a starts is some = halved-places _ n a some is
+
+pub bytes-places : (a : ℕ) (bytes : List ℕ) {h : Halved} → h ≡ inBytes bytes a → 0 < length bytes / 6
+    → Places (startAt bytes) (length bytes / 6) h
+unfolding inBytes
+bytes-places a bytes is some = halved-places _ (length bytes / 6) a some is
 
 module _ (t : RunsLent) where
   pub no-runs : t .count ≡ 0 → firstFault (runChecks t) ≡ illFormed
@@ -37,30 +66,32 @@ module _ (t : RunsLent) where
   runs-accepted some l = rw (ne-eqb (t .count) 0 (omega arith), le-ltb _ _ l)
 
   module _ (a : ℕ) where
-    pub refused : firstFault (runChecks t) ≡ illFormed → runLookupGave IllFormed ≡ runLookup t a
+    pub refused : firstFault (runChecks t) ≡ illFormed → runLookupGave P.IllFormed ≡ runLookup t a
     unfolding runLookup
     refused e = sym (outcome-refused (runChecks t) _ _ illFormed e (λ z. omega arith))
 
     pub accepted : firstFault (runChecks t) ≡ done
         → runLookup t a
-        ≡ probed done (getD (t .hops) (inSlices (t .count) (t .starts) a .low) 0) (inSlices (t .count) (t .starts) a .probes)
+        ≡ probed done (getD (t .hops) (inSlices (t .count) (t .starts) a .low) 0)
+        (lastOf (λ i. getD (t .starts) i 0) (t .count) (inSlices (t .count) (t .starts) a .high))
+        (inSlices (t .count) (t .starts) a .probes)
     unfolding runLookup
     accepted e = outcome-done (runChecks t) _ _ e
 
-    pub found : {low probes : ℕ} → firstFault (runChecks t) ≡ done
-        → halving (λ i. getD (t .starts) i 0) (t .count) a ≡ record { low = low; probes = probes }
-        → runLookupGave (Hop (getD (t .hops) low 0) probes) ≡ runLookup t a
-    unfolding inSlices
-    found e h = sym (accepted e ∙ rw h)
+    pub found : {h : Halved} {last : ℕ} → firstFault (runChecks t) ≡ done → h ≡ inSlices (t .count) (t .starts) a
+        → last ≡ lastOf (λ i. getD (t .starts) i 0) (t .count) (h .high)
+        → runLookupGave (P.Hop (getD (t .hops) (h .low) 0) last (h .probes)) ≡ runLookup t a
+    found e is l = sym (accepted e ∙ rw (l, is))
 
     -- the number of probes is never above the least p with 2^p at least n
     pub run-probes-at-most : (p : ℕ) → t .count ≤ 2 ^ p → runLookup t a .probes ≤ p
     unfolding runLookup inSlices outcome
-    run-probes-at-most p h = go (eqb (firstFault (runChecks t)) done) _ _ _ (probes-at-most _ (t .count) a p h)
+    run-probes-at-most p h = go (eqb (firstFault (runChecks t)) done) _ _ _ _ (probes-at-most _ (t .count) a p h)
       where
-        go : (b : Bool) (number hop probes : ℕ) → probes ≤ p → (cond b (probed done hop probes) (probed number 0 0)) .probes ≤ p
-        go true number hop probes l = l
-        go false number hop probes l = zero-le
+        go : (b : Bool) (number hop last probes : ℕ) → probes ≤ p
+            → (cond b (probed done hop last probes) (probed number 0 0 0)) .probes ≤ p
+        go true number hop last probes l = l
+        go false number hop last probes l = zero-le
 
 module _ (bytes : List ℕ) where
   pub no-bytes : length bytes ≡ 0 → firstFault (bytesChecks bytes) ≡ illFormed
@@ -75,49 +106,38 @@ module _ (bytes : List ℕ) where
   unfolding bytesChecks firstFault
   sixes-accepted some e = rw (ne-eqb (length bytes) 0 (omega arith), eq-eqb (length bytes % 6) 0 e)
 
-  pub bytes-refused : (a : ℕ) → firstFault (bytesChecks bytes) ≡ illFormed → lookedUp illFormed 0 ≡ bytesLookup bytes a
-  unfolding bytesLookup
-  bytes-refused a e = sym (outcome-refused (bytesChecks bytes) _ _ illFormed e (λ z. omega arith))
+  module _ (a : ℕ) where
+    pub bytes-refused : firstFault (bytesChecks bytes) ≡ illFormed → bytesLookupGave H.IllFormed ≡ bytesLookup bytes a
+    unfolding bytesLookup
+    bytes-refused e = sym (outcome-refused (bytesChecks bytes) _ _ illFormed e (λ z. omega arith))
 
-  pub bytes-looked-up : (a : ℕ) → firstFault (bytesChecks bytes) ≡ done
-      → bytesLookup bytes a ≡ lookedUp done (hopAt bytes (inBytes bytes a .low))
-  unfolding bytesLookup
-  bytes-looked-up a e = outcome-done (bytesChecks bytes) _ _ e
+    pub bytes-looked-up : firstFault (bytesChecks bytes) ≡ done
+        → bytesLookup bytes a
+        ≡ held done (hopAt bytes (inBytes bytes a .low)) (lastOf (startAt bytes) (length bytes / 6) (inBytes bytes a .high))
+    unfolding bytesLookup
+    bytes-looked-up e = outcome-done (bytesChecks bytes) _ _ e
 
--- what code that halves run bytes keeps true
-pub record RunsHalved (bytes : List ℕ) (a place apart : ℕ) : Type 0 where
-  pub probes : ℕ
-  pub probing : Probing (startAt bytes) (length bytes / 6) a place apart probes
-
-pub runs-start : (bytes : List ℕ) (a : ℕ) → 1 ≤ length bytes / 6 → RunsHalved bytes a (length bytes / 6 / 2) (length bytes / 6)
-runs-start bytes a some = record { probes = 0; probing = probing-start _ _ _ some }
-
--- four bytes as a number, high byte first
-abbrev fourFrom : List ℕ → ℕ → ℕ
-fourFrom bytes k = getD bytes k 0 * 16777216 + getD bytes (k + 1) 0 * 65536 + getD bytes (k + 2) 0 * 256 + getD bytes (k + 3) 0
-
-start-here : (bytes : List ℕ) (i : ℕ) → fourFrom bytes (i * 6) ≡ startAt bytes i
-unfolding startAt
-start-here bytes i = rw add-zero
-
-module _ {bytes : List ℕ} {a place apart : ℕ} (s : RunsHalved bytes a place apart) where
-  pub runs-narrowed : {start place′ apart′ : ℕ} → 1 < apart → start ≡ fourFrom bytes (place * 6)
-      → Narrowed (ltb a start) place apart place′ apart′ → RunsHalved bytes a place′ apart′
-  runs-narrowed far four t =
-      record { probes = s .probes + 1; probing = probing-narrowed (s .probing) far (rw (four ∙ start-here bytes place) at t) }
-
-  pub runs-end : {hop : ℕ} → apart ≤ 1 → firstFault (bytesChecks bytes) ≡ done
-      → hop ≡ getD bytes (place * 6 + 4) 0 * 256 + getD bytes (place * 6 + 5) 0 → lookedUp done hop ≡ bytesLookup bytes a
-  unfolding inBytes hopAt
-  runs-end close e is = sym (bytes-looked-up bytes a e ∙ rw (probing-end (s .probing) close, is))
+    pub bytes-held : {h : Halved} {n hop last : ℕ} → firstFault (bytesChecks bytes) ≡ done → h ≡ inBytes bytes a → n ≡ length bytes / 6
+        → hop ≡ hopAt bytes (h .low) → last ≡ lastOf (startAt bytes) n (h .high) → bytesLookupGave (H.Hop hop last) ≡ bytesLookup bytes a
+    bytes-held e is all p l = sym (bytes-looked-up e ∙ rw (p, l, all, is))
 
 -- two answers with one outcome are the same
 one-answer : (r r′ : Probed) → runLookupGave r ≡ runLookupGave r′ → r ≡ r′
-one-answer (Hop h p) (Hop h′ p′) e = ap (λ o. Hop (o .hop) (o .probes)) e
-one-answer (Hop h p) IllFormed e = absurd (omega (arith, ap (λ (o : RunLookupOutcome). o .number) e))
-one-answer IllFormed (Hop h p) e = absurd (omega (arith, ap (λ (o : RunLookupOutcome). o .number) e))
-one-answer IllFormed IllFormed e = refl
+one-answer (P.Hop h l p) (P.Hop h′ l′ p′) e = ap (λ o. P.Hop (o .hop) (o .last) (o .probes)) e
+one-answer (P.Hop h l p) P.IllFormed e = absurd (omega (arith, ap (λ (o : RunLookupOutcome). o .number) e))
+one-answer P.IllFormed (P.Hop h l p) e = absurd (omega (arith, ap (λ (o : RunLookupOutcome). o .number) e))
+one-answer P.IllFormed P.IllFormed e = refl
 
 pub run-lookup-settled : (t : RunsLent) (a : ℕ) (r r′ : Probed)
     → runLookupGave r ≡ runLookup t a → runLookupGave r′ ≡ runLookup t a → r ≡ r′
 run-lookup-settled t a r r′ e e′ = one-answer r r′ (e ∙ sym e′)
+
+one-held : (r r′ : Held) → bytesLookupGave r ≡ bytesLookupGave r′ → r ≡ r′
+one-held (H.Hop h l) (H.Hop h′ l′) e = ap (λ o. H.Hop (o .hop) (o .last)) e
+one-held (H.Hop h l) H.IllFormed e = absurd (omega (arith, ap (λ (o : BytesLookupOutcome). o .number) e))
+one-held H.IllFormed (H.Hop h l) e = absurd (omega (arith, ap (λ (o : BytesLookupOutcome). o .number) e))
+one-held H.IllFormed H.IllFormed e = refl
+
+pub bytes-lookup-settled : (bytes : List ℕ) (a : ℕ) (r r′ : Held)
+    → bytesLookupGave r ≡ bytesLookup bytes a → bytesLookupGave r′ ≡ bytesLookup bytes a → r ≡ r′
+bytes-lookup-settled bytes a r r′ e e′ = one-held r r′ (e ∙ sym e′)

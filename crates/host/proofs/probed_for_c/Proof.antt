@@ -1,10 +1,10 @@
--- `host::run_lookup_for_c` meets its contract, case by case: at most 64 probes fit above the number and the hop.
+-- `host::probed_for_c` meets its contract, case by case: at most 64 probes fit above the number and the hop, and a refusal stores nothing.
 -- Assumes nothing.
 use native.Mathlib.Omega.{arith}
-use Rattle.host.proofs.Carried.{few-probes, probed-carried, no-runs-carried}
 use borrow.Author.Needs.{needs}
-use Rattle.host.proofs.run_lookup_for_c.Statement.{statement}
-use Rattle.host.proofs.run_lookup_for_c.Tie as tie
+use Rattle.host.proofs.Carried.{few-probes, probed-carried, no-runs-carried}
+use Rattle.host.proofs.probed_for_c.Statement.{statement}
+use Rattle.host.proofs.probed_for_c.Tie as tie
 
 enum-known-r : tie.Need-enum-known-r
 enum-known-r c = search needs
@@ -25,20 +25,11 @@ cast-result-2 : tie.Need-cast-result-2
 cast-result-2 c = search needs
 
 returns : tie.Need-returns
-returns c = probed-carried _ (c .before .r .given .1)
+returns c = probed-carried _ (c .before .r .given .1) _
 
 returns-2 : tie.Need-returns-2
-returns-2 c = no-runs-carried _ (c .enum-told .given .1)
+returns-2 c = no-runs-carried _ (c .enum-told .given .1) _
 
-pub run-lookup-for-c-spec : {M : Type 1} → statement M
-run-lookup-for-c-spec =
-    tie.close
-    (tie.spec
-    enum-known-r
-    mul-result
-    cast-result
-    add-result
-    enum-told
-    cast-result-2
-    returns
-    returns-2)
+pub probed-for-c-spec : {M : Type 1} → statement M
+probed-for-c-spec =
+    tie.close (tie.spec enum-known-r mul-result cast-result add-result enum-told cast-result-2 returns returns-2)

@@ -1,8 +1,14 @@
--- `runs::start_from` meets its contract: the four bytes lie in the slice, and `start_of` takes them high byte first.
+-- `runs::start_at` meets its contract: the four bytes lie in the slice, and `start_of` takes them high byte first.
 -- Assumes nothing.
+use mathlib.Core.Path.{_∙_}
+use native.Mathlib.Nat.{add-zero}
 use borrow.Author.Needs.{needs}
-use Rattle.runs.proofs.start_from.Statement.{statement}
-use Rattle.runs.proofs.start_from.Tie as tie
+use Rattle.runs.specs.Bytes.{startAt}
+use Rattle.runs.proofs.start_at.Statement.{statement}
+use Rattle.runs.proofs.start_at.Tie as tie
+
+mul-at : tie.Need-mul-at
+mul-at c = search needs
 
 shared-slice-read-start-of : tie.Need-shared-slice-read-start-of
 shared-slice-read-start-of c = search needs
@@ -29,7 +35,20 @@ start-of-requires : tie.Need-start-of-requires
 start-of-requires c κs = search needs
 
 returns : tie.Need-returns
-returns c = c .start-of .ensures
+unfolding startAt
+returns c = c .start-of .ensures ∙ rw add-zero
 
-pub start-from-spec : {M : Type 1} → statement M
-start-from-spec = tie.close (tie.spec shared-slice-read-start-of add-start-of shared-slice-read-start-of-2 add-start-of-2 shared-slice-read-start-of-3 add-start-of-3 shared-slice-read-start-of-4 start-of-requires returns)
+pub start-at-spec : {M : Type 1} → statement M
+start-at-spec =
+    tie.close
+    (tie.spec
+    mul-at
+    shared-slice-read-start-of
+    add-start-of
+    shared-slice-read-start-of-2
+    add-start-of-2
+    shared-slice-read-start-of-3
+    add-start-of-3
+    shared-slice-read-start-of-4
+    start-of-requires
+    returns)
