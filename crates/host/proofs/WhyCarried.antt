@@ -12,7 +12,6 @@ use Rattle.host.specs.Exports.{WhyForC, whyGaveC, placeForC, whyForC}
 
 module _ (r : Reason) where
   pub row-carried : {p n : ℕ} → r ≡ R.Row p n → whyGaveC (record { number = 0; listed = n; place = p }) [] ≡ whyForC (whyGave r [])
-  unfolding whyForC placeForC
   row-carried e = rw e
 
   pub nothing-carried : r ≡ R.Nothing → whyForC (told 0 0 none []) ≡ whyForC (whyGave r [])
@@ -29,7 +28,6 @@ abbrev leaving : List ℕ → WhyForC → WhyForC
 leaving places o = whyGaveC (o .answer) places
 
 gave-leaving : (r : Reason) (places : List ℕ) → leaving places (whyForC (whyGave r [])) ≡ whyForC (whyGave r places)
-unfolding whyForC
 gave-leaving (R.Row p n) places = refl
 gave-leaving R.Nothing places = refl
 gave-leaving R.IllFormed places = refl

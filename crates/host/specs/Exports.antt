@@ -172,11 +172,11 @@ abbrev pub whyGaveC : WhelkReason → List ℕ → WhyForC
 whyGaveC answer places = record { answer = answer; places = places }
 
 -- Rule 18.6: the place of the row that decides, and 0 if no row does. Nothing is listed then, so C can tell.
-unfoldable pub placeForC : Option ℕ → ℕ
+abbrev pub placeForC : Option ℕ → ℕ
 placeForC none = 0
 placeForC (some p) = p
 
 -- Rule 18.6: a listing gives C a struct of its number, how many places it listed, and the place of the row that decides.
-unfoldable pub whyForC : WhyOutcome → WhyForC
+abbrev pub whyForC : WhyOutcome → WhyForC
 whyForC o =
     whyGaveC (record { number = o .number; listed = o .listed; place = placeForC (o .reason) }) (o .places)

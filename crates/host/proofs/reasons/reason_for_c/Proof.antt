@@ -9,8 +9,8 @@ use Rattle.host.proofs.reasons.reason_for_c.Tie as tie
 enum-known-r : tie.Need-enum-known-r
 enum-known-r c = search needs
 
-cast-t6 : tie.Need-cast-t6
-cast-t6 c = search needs
+cast-t5 : tie.Need-cast-t5
+cast-t5 c = search needs
 
 enum-told : tie.Need-enum-told
 enum-told c = search needs
@@ -47,7 +47,7 @@ reason-for-c-spec =
     tie.close
     (tie.spec
     enum-known-r
-    cast-t6
+    cast-t5
     enum-told
     no-row-requires
     enum-told-2
