@@ -3,7 +3,7 @@
 -- Assumes nothing.
 use mathlib.Core.Path.{_≡_, refl}
 use mathlib.Core.Bool.{true}
-use mathlib.Core.List.{List, [], _∷_}
+use mathlib.Core.List.{List, [], _∷_, map}
 use Prim.Native.Nat.{ℕ, zero, suc, _≤_, _<_}
 use native.Mathlib.Nat.{le-refl}
 use native.Mathlib.Omega.{arith}
@@ -18,8 +18,10 @@ use Rattle.ground.proofs.Truth.{or-left, or-right}
 use Rattle.cidr.specs.Prefix.{lengthOf, holds}
 use Rattle.routes.specs.Row.{rowsOf}
 use Rattle.routes.specs.WellFormed.{wellFormed}
+use Rattle.routes.specs.Plain.{matching}
+use Rattle.routes.proofs.RowsOf.{rowAt}
 use Rattle.why.specs.Why.{placesOf}
-use Rattle.why.proofs.Places.{places-are, longer-behind, few-places}
+use Rattle.why.proofs.Places.{places-are, rows-at-places, longer-behind, few-places}
 
 -- what stands at a place of a column is in it
 at-isIn : (xs : List ℕ) (j : ℕ) → j < length xs → isIn (getD xs j 0) xs ≡ true
@@ -48,6 +50,10 @@ module _ (count : ℕ) (keys hops : List ℕ) (well : wellFormed count keys hops
   -- Rule 18.1: every row that holds the address is listed.
   pub holds-listed : (i : ℕ) → i < count → holds (getD keys i 0) a ≡ true → isIn i (placesOf a (rowsOf count keys hops)) ≡ true
   holds-listed i l e = let at = placed i l e in rw (at .2) at (at-isIn (placesOf a (rowsOf count keys hops)) (at .0) (at .1))
+
+  -- the rows at the places listed are the matching rows
+  pub rows-listed : matching a (rowsOf count keys hops) ≡ map (rowAt keys hops) (placesOf a (rowsOf count keys hops))
+  rows-listed = rw (places-are count keys hops well a) (rows-at-places count keys hops well a count (le-refl count))
 
   -- Rule 18.1: the shortest prefix comes first.
   pub lengths-ascend : (j k : ℕ) → j < k → k < length (placesOf a (rowsOf count keys hops))

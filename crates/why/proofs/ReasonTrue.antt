@@ -16,14 +16,14 @@ use Rattle.ground.specs.Column.{lower}
 use Rattle.ground.proofs.Truth.{decided, cond-false}
 use Rattle.ground.proofs.Lower.{lower-at}
 use Rattle.cidr.specs.Prefix.{lengthOf, holds}
-use Rattle.routes.specs.Row.{Row, rowsOf, keysOf, those}
+use Rattle.routes.specs.Row.{Row, rowsOf, keysOf}
 use Rattle.routes.specs.WellFormed.{wellFormed}
 use Rattle.routes.specs.Plain.{matching, longer, longest, hopOf, plain}
 use Rattle.routes.proofs.RowsOf.{rowAt}
 use Rattle.routes.proofs.Columns.{keys-of-rows}
 use Rattle.why.specs.Why.{placesOf, placeOf, reasonFor}
-use Rattle.why.proofs.Places.{keys-there, hops-there, keys-ascending, key-climbs, places-are, rows-at-places}
-use Rattle.why.proofs.Listed.{listed-holds, placed, lengths-ascend}
+use Rattle.why.proofs.Places.{keys-there, hops-there, keys-ascending, key-climbs}
+use Rattle.why.proofs.Listed.{listed-holds, placed, rows-listed, lengths-ascend}
 
 -- of rows that are each shorter than one behind them, that one is the longest
 longest-last : (xs : List Row) (r : Row) → ((k : ℕ) → k < length xs → lengthOf (getD (keysOf xs) k 0) < lengthOf (r .key))
@@ -64,12 +64,6 @@ pub record Undecided (count : ℕ) (keys hops : List ℕ) (a : ℕ) : Type 0 whe
   pub no-hop : plain (rowsOf count keys hops) a ≡ 0
 
 module _ (count : ℕ) (keys hops : List ℕ) (well : wellFormed count keys hops ≡ true) (a : ℕ) where
-  -- the rows that hold the address are those at the places listed
-  rows-listed : matching a (rowsOf count keys hops) ≡ map (rowAt keys hops) (placesOf a (rowsOf count keys hops))
-  rows-listed =
-      rows-at-places count keys hops well a count (le-refl count)
-      ∙ ap (map (rowAt keys hops)) (sym (places-are count keys hops well a))
-
   -- where places are listed, the last one
   module _ (listed : 0 < length (placesOf a (rowsOf count keys hops))) where
     abbrev last : ℕ
@@ -83,7 +77,10 @@ module _ (count : ℕ) (keys hops : List ℕ) (well : wellFormed count keys hops
         let places = placesOf a (rowsOf count keys hops) in
         let front = take (length places - 1) places in
         let long : length front ≡ length places - 1 = length-take-le (length places - 1) places (omega arith) in
-        ap longest (rows-listed ∙ ap (map (rowAt keys hops)) (last-split places listed) ∙ map-append (rowAt keys hops) front (last ∷ []))
+        ap longest
+        (rows-listed count keys hops well a
+        ∙ ap (map (rowAt keys hops)) (last-split places listed)
+        ∙ map-append (rowAt keys hops) front (last ∷ []))
         ∙ longest-last (map (rowAt keys hops) front) (rowAt keys hops last) (λ k l.
         let in-front : k < length front = rw length-map at l in
         rw (key-at keys hops front k in-front, getD-take (length places - 1) places k 0 (omega arith))
@@ -122,7 +119,9 @@ module _ (count : ℕ) (keys hops : List ℕ) (well : wellFormed count keys hops
   module _ (unlisted : length (placesOf a (rowsOf count keys hops)) ≡ 0) where
     longest-none : longest (matching a (rowsOf count keys hops)) ≡ none
     unfolding longest
-    longest-none = ap longest (rows-listed ∙ ap (map (rowAt keys hops)) (empty-is (placesOf a (rowsOf count keys hops)) unlisted))
+    longest-none =
+        let places = placesOf a (rowsOf count keys hops) in
+        ap longest (rows-listed count keys hops well a ∙ ap (map (rowAt keys hops)) (empty-is places unlisted))
 
     pub reason-is-none : reasonFor a (rowsOf count keys hops) ≡ none
     unfolding reasonFor placeOf

@@ -46,7 +46,7 @@ module _ (l : ListLent) (a : ℕ) (places : List ℕ) where
     -- a well-formed list isn't refused with 11
     not-ill : why l a places .number ≡ illFormed → ⊥
     not-ill e = ⊎-elim
-        (λ lt. omega (arith, ap numberOf (why-short l a places well (ltb-true _ _ lt))))
+        (λ lt. omega (arith, ap numberOf (why-short l a places well refl (ltb-true _ _ lt))))
         (λ ge. omega (arith, ap numberOf (why-done l a places well (ltb-false _ _ ge))))
         (decided (ltb (length places) (length (placesOf a (rowsLent l)))))
 

@@ -2,12 +2,12 @@
 // and the one that decides. The list and its plain answer are `routes`'s, and how a row is written is `text`'s.
 ghost use mathlib.Core.Path.{_≡_};
 ghost use mathlib.Core.Bool.{true};
-ghost use Prim.Native.Nat.{_≤_};
-ghost use lib.ListN.{length, take};
+ghost use mathlib.Core.List.{map};
+ghost use Prim.Native.Nat.{ℕ, _≤_, _<_};
+ghost use lib.ListN.{length, getD, take};
 ghost use Rattle.ground.specs.Slots.{written};
-ghost use Rattle.routes.specs.Row.{listLent, rowsOf, keysOf, hopsOf};
+ghost use Rattle.routes.specs.Row.{listLent, rowsOf};
 ghost use Rattle.routes.specs.WellFormed.{wellFormed};
-ghost use Rattle.routes.specs.Plain.{matching};
 ghost use Rattle.text.specs.Text.{writeGave};
 ghost use Rattle.why.specs.Why.{placesOf, whyGave, why};
 ghost use Rattle.why.specs.Text.{whyText};
@@ -25,7 +25,7 @@ pub enum Reason {
     NoRoom,
 }
 
-// The places of the rows that hold an address, at the front of an array that has room for all.
+// The places of the rows that hold an address, in the order of the list, at the front of an array that has room for all.
 fn find(
     count: usize,
     keys: &[u64],
@@ -39,13 +39,14 @@ fn find(
         × (now (found .exit) ≡ written (placesOf a (rowsOf count (now (keys .entry)) (now (hops .entry)))) (now (found .entry))) ⌝ }
 {
     let mut n = 0;
-    let mut i = 0;
-    while i < count {
-        if cidr::holds(keys[i], a) {
-            found[n] = i;
+    let mut left = count;
+    while 0 < left {
+        let at = count - left;
+        if cidr::holds(keys[at], a) {
+            found[n] = at;
             n += 1;
         }
-        i += 1;
+        left -= 1;
     }
     n
 }
@@ -87,36 +88,30 @@ pub fn why(count: usize, keys: &[u64], hops: &[u16], a: u32, places: &mut [usize
     }
 }
 
-// The rows that hold an address, at the front of two arrays that have room for all.
+// The keys and the hops at the first n places, at the front of two slices that have room for them.
 fn gather(
-    count: usize,
+    n: usize,
+    found: &[usize],
     keys: &[u64],
     hops: &[u16],
-    a: u32,
-    held_keys: &mut [u64; MOST_MATCHES],
-    held_hops: &mut [u16; MOST_MATCHES],
-) -> usize
-    requires { ⌜ (wellFormed count (now keys) (now hops) ≡ true)
-        × (length (now «held_keys») ≡ 33) × (length (now «held_hops») ≡ 33) ⌝ }
-    ensures { λ r.
-        ⌜ (r ≡ length (matching a (rowsOf count (now (keys .entry)) (now (hops .entry)))))
-        × (now («held_keys» .exit)
-        ≡ written (keysOf (matching a (rowsOf count (now (keys .entry)) (now (hops .entry))))) (now («held_keys» .entry)))
+    held_keys: &mut [u64],
+    held_hops: &mut [u16],
+)
+    requires { ⌜ (n ≤ length (now found)) × (n ≤ length (now «held_keys»)) × (n ≤ length (now «held_hops»)) ⌝ }
+    requires { ⌜ ((i : ℕ) → i < n → (getD (now found) i 0 < length (now keys)) × (getD (now found) i 0 < length (now hops))) ⌝ }
+    ensures { λ _.
+        ⌜ (now («held_keys» .exit)
+        ≡ written (map (λ at. getD (now (keys .entry)) at 0) (take n (now (found .entry)))) (now («held_keys» .entry)))
         × (now («held_hops» .exit)
-        ≡ written (hopsOf (matching a (rowsOf count (now (keys .entry)) (now (hops .entry))))) (now («held_hops» .entry))) ⌝ }
+        ≡ written (map (λ at. getD (now (hops .entry)) at 0) (take n (now (found .entry)))) (now («held_hops» .entry))) ⌝ }
 {
-    let mut n = 0;
     let mut i = 0;
-    while i < count {
-        let key = keys[i];
-        if cidr::holds(key, a) {
-            held_keys[n] = key;
-            held_hops[n] = hops[i];
-            n += 1;
-        }
+    while i < n {
+        let at = found[i];
+        held_keys[i] = keys[at];
+        held_hops[i] = hops[at];
         i += 1;
     }
-    n
 }
 
 // Rule 18.5: the rows that hold an address as the list writer writes them, shortest prefix first, at the front of a lent buffer; 11 for a
@@ -128,8 +123,10 @@ pub fn why_text(count: usize, keys: &[u64], hops: &[u16], a: u32, out: &mut [u8]
     if !routes::list_ok(count, keys, hops, false) {
         return Written::IllFormed;
     }
+    let mut found = [0usize; MOST_MATCHES];
+    let n = find(count, keys, hops, a, &mut found);
     let mut held_keys = [0u64; MOST_MATCHES];
     let mut held_hops = [0u16; MOST_MATCHES];
-    let n = gather(count, keys, hops, a, &mut held_keys, &mut held_hops);
+    gather(n, &found, keys, hops, &mut held_keys, &mut held_hops);
     text::write(n, &held_keys, &held_hops, out)
 }

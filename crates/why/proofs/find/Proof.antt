@@ -1,9 +1,9 @@
--- `why::find` meets its contract. The loop's invariant: the places of the rows before i that hold the address stand at the front. A row
+-- `why::find` meets its contract. The loop's invariant: the places of the rows passed that hold the address stand at the front. A row
 -- more that holds it finds a free slot, since at most 33 hold one address. The measure is how many rows are left.
 -- Assumes nothing.
 use mathlib.Core.Path.{sym, _∙_}
 use mathlib.Core.Logic.{⊎-elim}
-use Prim.Native.Nat.{_-_, _<_}
+use Prim.Native.Nat.{_-_, _≤_, _<_}
 use native.Mathlib.Omega.{arith}
 use borrow.Author.Needs.{needs}
 use Rattle.why.proofs.Places.{rows-few, keys-there}
@@ -12,13 +12,16 @@ use Rattle.why.proofs.find.Statement.{statement}
 use Rattle.why.proofs.find.Tie as tie
 
 abbrev Inv-loop : tie.InvT-loop
-Inv-loop count keys hops a found₀ n₀ i₀ found n i = Noting count keys a found₀ n i found
+Inv-loop count keys hops a found₀ n₀ left₀ found n left = (left ≤ count) × Noting count keys a found₀ n (count - left) found
 
 abbrev μ-loop : tie.MeasureT-loop
-μ-loop count keys hops a found₀ n₀ i₀ found n i = count - i
+μ-loop count keys hops a found₀ n₀ left₀ found n left = left
 
 loop-holds : tie.Need-loop-holds Inv-loop μ-loop
-loop-holds c = noting-start _ _ _ _
+loop-holds c = (omega arith, noting-start _ _ _ _ _ (omega arith))
+
+sub-at : tie.Need-sub-at Inv-loop μ-loop
+sub-at c = omega arith
 
 mul-holds : tie.Need-mul-holds Inv-loop μ-loop
 mul-holds c = omega (arith, rows-few _ _ _ (c .before .before .before .before .pre .0))
@@ -34,7 +37,7 @@ room : (c : tie.Then1 Inv-loop μ-loop) → c .before .before .before .before .l
 room c =
     let at-loop = c .before .before .before .before in
     let start = at-loop .before .before .before in
-    note-fits _ (start .pre .0) (at-loop .loop .inv) (c .before .before .before .loop-test .taken)
+    note-fits _ (start .pre .0) (at-loop .loop .inv .1) (omega arith)
     (sym (c .before .holds .ensures) ∙ c .if1 .taken)
 
 mul-found : tie.Need-mul-found Inv-loop μ-loop
@@ -46,8 +49,8 @@ element-write-found c = room c
 add-n : tie.Need-add-n Inv-loop μ-loop
 add-n c = omega (arith, room c)
 
-add-i : tie.Need-add-i Inv-loop μ-loop
-add-i c = omega arith
+sub-left : tie.Need-sub-left Inv-loop μ-loop
+sub-left c = omega arith
 
 loop-less : tie.Need-loop-less Inv-loop μ-loop
 loop-less c = omega arith
@@ -56,15 +59,16 @@ loop-again : tie.Need-loop-again Inv-loop μ-loop
 loop-again c =
     let at-loop = c .before .before .before .before in
     let pre = at-loop .before .before .before .pre in
-    let inv = at-loop .loop .inv in
-    let more = c .before .before .before .loop-test .taken in
+    let inv = at-loop .loop .inv .1 in
     ⊎-elim
-    (λ w. rw (w .1, w .2) (noting-one _ (pre .0) inv more (sym (c .before .holds .ensures) ∙ w .0 .taken) (pre .1)))
-    (λ w. rw (w .1, w .2) (noting-none _ (pre .0) inv more (sym (c .before .holds .ensures) ∙ w .0 .left)))
+    (λ w. rw (w .1, w .2)
+    (omega arith, noting-one _ (pre .0) inv (omega arith) (sym (c .before .holds .ensures) ∙ w .0 .taken) (pre .1) _ (omega arith)))
+    (λ w. rw (w .1, w .2)
+    (omega arith, noting-none _ (pre .0) inv (omega arith) (sym (c .before .holds .ensures) ∙ w .0 .left) _ (omega arith)))
     (c .if1 .came)
 
 returns : tie.Need-returns Inv-loop μ-loop
-returns c = noting-end _ (c .before .before .before .before .pre .0) (c .before .loop .inv) (c .loop-test .left)
+returns c = noting-end _ (c .before .before .before .before .pre .0) (c .before .loop .inv .1) (omega arith)
 
 pub find-spec : {M : Type 1} → statement M
 find-spec =
@@ -73,13 +77,14 @@ find-spec =
     Inv-loop
     μ-loop
     loop-holds
+    sub-at
     mul-holds
     shared-slice-read-holds
     holds-requires
     mul-found
     element-write-found
     add-n
-    add-i
+    sub-left
     loop-less
     loop-again
     returns)

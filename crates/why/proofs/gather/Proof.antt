@@ -1,87 +1,95 @@
--- `why::gather` meets its contract. The loop's invariant: the keys and hops of the rows before i that hold the address stand at the front.
--- A row more that holds it finds a free slot, since at most 33 hold one address. The measure is how many rows are left.
+-- `why::gather` meets its contract. The loop's invariant: the keys and the hops at the first i places stand at the front of their slices,
+-- and all slots behind them are as they were. The measure is how many places are left.
 -- Assumes nothing.
-use mathlib.Core.Path.{sym, _∙_}
-use mathlib.Core.Logic.{⊎-elim}
 use Prim.Native.Nat.{_-_, _<_}
 use native.Mathlib.Omega.{arith}
+use lib.ListN.{length, getD}
+use denote.Ref.{now}
 use borrow.Author.Needs.{needs}
-use Rattle.why.proofs.Places.{rows-few, keys-there, hops-there}
-use Rattle.why.proofs.Walking.{Gathering, gathering-start, row-fits, gathering-one, gathering-none, gathering-end}
+use Rattle.why.proofs.Walking.{Filling, filling-start, filling-long, filling-next, filling-end}
 use Rattle.why.proofs.gather.Statement.{statement}
 use Rattle.why.proofs.gather.Tie as tie
 
 abbrev Inv-loop : tie.InvT-loop
-Inv-loop count keys hops a held-keys₀ held-hops₀ n₀ i₀ held-keys held-hops n i =
-    Gathering count keys hops a held-keys₀ held-hops₀ n i held-keys held-hops
+Inv-loop n found keys hops held-keys₀ held-hops₀ i₀ held-keys held-hops i =
+    Filling (λ at. getD keys at 0) n found held-keys₀ i held-keys × Filling (λ at. getD hops at 0) n found held-hops₀ i held-hops
 
 abbrev μ-loop : tie.MeasureT-loop
-μ-loop count keys hops a held-keys₀ held-hops₀ n₀ i₀ held-keys held-hops n i = count - i
+μ-loop n found keys hops held-keys₀ held-hops₀ i₀ held-keys held-hops i = n - i
 
 loop-holds : tie.Need-loop-holds Inv-loop μ-loop
-loop-holds c = gathering-start _ _ _ _ _ _
+loop-holds c = (filling-start _, filling-start _)
 
-mul-key : tie.Need-mul-key Inv-loop μ-loop
-mul-key c = omega (arith, rows-few _ _ _ (c .before .before .before .before .pre .0))
+mul-at : tie.Need-mul-at Inv-loop μ-loop
+mul-at c = search needs
 
-shared-slice-read-key : tie.Need-shared-slice-read-key Inv-loop μ-loop
-shared-slice-read-key c = omega (arith, keys-there _ _ _ (c .before .before .before .before .before .pre .0))
+shared-slice-read-at : tie.Need-shared-slice-read-at Inv-loop μ-loop
+shared-slice-read-at c = omega (arith, c .before .before .before .pre .0 .0)
 
-holds-requires : tie.Need-holds-requires Inv-loop μ-loop
-holds-requires c κs = search needs
-
--- a row that holds the address finds a free slot
-room : (c : tie.Then1 Inv-loop μ-loop) → c .before .before .before .before .loop .n < 33
-room c =
-    let at-loop = c .before .before .before .before in
-    let start = at-loop .before .before .before in
-    row-fits (start .pre .0) (at-loop .loop .inv) (c .before .before .before .loop-test .taken)
-    (sym (c .before .holds .ensures) ∙ c .if1 .taken)
+-- the place is within both slices
+there : (c : tie.In-loop Inv-loop μ-loop) → let at-loop = c .before in
+    let args = at-loop .before .args in
+    let at = getD (now (args .found)) (at-loop .loop .i) 0 in
+    (at < length (now (args .keys))) × (at < length (now (args .hops)))
+there c = c .before .before .pre .1 _ (c .loop-test .taken)
 
 mul-held-keys : tie.Need-mul-held-keys Inv-loop μ-loop
-mul-held-keys c = omega (arith, room c)
+mul-held-keys c = omega (arith, there (c .before) .0)
 
-element-write-held-keys : tie.Need-element-write-held-keys Inv-loop μ-loop
-element-write-held-keys c = room c
+shared-slice-read-held-keys : tie.Need-shared-slice-read-held-keys Inv-loop μ-loop
+shared-slice-read-held-keys c = there (c .before .before) .0
+
+mul-held-keys-2 : tie.Need-mul-held-keys-2 Inv-loop μ-loop
+mul-held-keys-2 c = search needs
+
+slice-write-held-keys : tie.Need-slice-write-held-keys Inv-loop μ-loop
+slice-write-held-keys c =
+    let at-loop = c .before .before .before in
+    let pre = at-loop .before .pre .0 in
+    omega (arith, filling-long _ (pre .0) (pre .1) (at-loop .loop .inv .0))
 
 mul-held-hops : tie.Need-mul-held-hops Inv-loop μ-loop
-mul-held-hops c =
-    let start = c .before .before .before .before .before .before .before in
-    omega (arith, rows-few _ _ _ (start .pre .0), c .before .before .before .loop-test .taken)
+mul-held-hops c = omega (arith, there (c .before .before) .1)
 
 shared-slice-read-held-hops : tie.Need-shared-slice-read-held-hops Inv-loop μ-loop
-shared-slice-read-held-hops c =
-    let turn = c .before .before .before .before in
-    omega (arith, hops-there _ _ _ (turn .before .before .before .before .pre .0), turn .loop-test .taken)
+shared-slice-read-held-hops c = there (c .before .before .before) .1
 
 mul-held-hops-2 : tie.Need-mul-held-hops-2 Inv-loop μ-loop
-mul-held-hops-2 c = omega (arith, room (c .before))
+mul-held-hops-2 c = search needs
 
-element-write-held-hops : tie.Need-element-write-held-hops Inv-loop μ-loop
-element-write-held-hops c = room (c .before)
-
-add-n : tie.Need-add-n Inv-loop μ-loop
-add-n c = omega (arith, room (c .before))
+slice-write-held-hops : tie.Need-slice-write-held-hops Inv-loop μ-loop
+slice-write-held-hops c =
+    let at-loop = c .before .before .before .before in
+    let pre = at-loop .before .pre .0 in
+    omega (arith, filling-long _ (pre .0) (pre .2) (at-loop .loop .inv .1))
 
 add-i : tie.Need-add-i Inv-loop μ-loop
-add-i c = omega arith
+add-i c = search needs
 
 loop-less : tie.Need-loop-less Inv-loop μ-loop
-loop-less c = omega arith
+loop-less c = search needs
 
 loop-again : tie.Need-loop-again Inv-loop μ-loop
 loop-again c =
-    let at-loop = c .before .before .before .before in
-    let pre = at-loop .before .before .before .pre in
+    let turn = c .before .before .before in
+    let at-loop = turn .before in
+    let pre = at-loop .before .pre .0 in
     let inv = at-loop .loop .inv in
-    let more = c .before .before .before .loop-test .taken in
-    ⊎-elim
-    (λ w. rw (w .2, w .3, w .4) (gathering-one (pre .0) inv more (sym (c .before .holds .ensures) ∙ w .0 .taken) (pre .1) (pre .2)))
-    (λ w. rw (w .1, w .2, w .3) (gathering-none (pre .0) inv more (sym (c .before .holds .ensures) ∙ w .0 .left)))
-    (c .if1 .came)
+    let more = turn .loop-test .taken in
+    (filling-next _ (pre .0) (pre .1) (inv .0) more, filling-next _ (pre .0) (pre .2) (inv .1) more)
+
+same-length : tie.Need-same-length Inv-loop μ-loop
+same-length c = let pre = c .before .before .pre .0 in filling-long _ (pre .0) (pre .1) (c .before .loop .inv .0)
+
+same-length-2 : tie.Need-same-length-2 Inv-loop μ-loop
+same-length-2 c = let pre = c .before .before .pre .0 in filling-long _ (pre .0) (pre .2) (c .before .loop .inv .1)
 
 returns : tie.Need-returns Inv-loop μ-loop
-returns c = gathering-end (c .before .before .before .before .pre .0) (c .before .loop .inv) (c .loop-test .left)
+returns c =
+    let pre = c .before .before .pre .0 in
+    let inv = c .before .loop .inv in
+    let all = c .loop-test .left in
+    (filling-end _ (pre .0) (pre .1) (inv .0) all, filling-end _ (pre .0) (pre .2) (inv .1) all)
 
 pub gather-spec : {M : Type 1} → statement M
 gather-spec =
@@ -90,17 +98,19 @@ gather-spec =
     Inv-loop
     μ-loop
     loop-holds
-    mul-key
-    shared-slice-read-key
-    holds-requires
+    mul-at
+    shared-slice-read-at
     mul-held-keys
-    element-write-held-keys
+    shared-slice-read-held-keys
+    mul-held-keys-2
+    slice-write-held-keys
     mul-held-hops
     shared-slice-read-held-hops
     mul-held-hops-2
-    element-write-held-hops
-    add-n
+    slice-write-held-hops
     add-i
     loop-less
     loop-again
+    same-length
+    same-length-2
     returns)

@@ -5,6 +5,7 @@ use mathlib.Core.Path.{_≡_, refl, _∙_}
 use mathlib.Core.Bool.{true}
 use Prim.Native.Nat.{_<_}
 use native.Mathlib.Omega.{arith}
+use lib.ListN.{length}
 use denote.Ref.{now}
 use borrow.Author.Needs.{needs}
 use Rattle.ground.proofs.Truth.{not-true, not-false}
@@ -29,7 +30,12 @@ find-requires : tie.Need-find-requires
 find-requires c κs = (ok (c .before), refl)
 
 returns-2 : tie.Need-returns-2
-returns-2 c = why-short _ _ _ (ok (c .before .before .before)) (rw (c .before .find .ensures .0) at (c .if2 .taken))
+returns-2 c =
+    let found = c .before in
+    let branch = found .before .before in
+    let args = branch .before .before .before .before .before .args in
+    let short : length (now (args .places)) < found .find .result = c .if2 .taken in
+    why-short _ _ _ (ok branch) (found .find .ensures .0) short
 
 slice-aggregate-copy : tie.Need-slice-aggregate-copy
 slice-aggregate-copy c =
