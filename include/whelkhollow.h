@@ -323,8 +323,8 @@ uint32_t whelk_plain_lookup(size_t count, const uint64_t *keys, size_t keys_leng
 /* The most rows of a list that hold one address: one of each length from 0 to 32. */
 #define WHELK_MOST_MATCHES 33
 
-/* What a listing of reasons returns: its number, how many rows hold the address, and the place of the one that decides. Where listed is 0 no row
-   holds the address, and place means nothing. */
+/* What a listing of reasons returns: its number, how many rows hold the address, and the place of the one that decides. Look at the number first:
+   on a refusal the rest is 0. With number 0 and listed 0 no row holds the address, and place is 0. */
 struct whelk_reason {
     size_t number;
     size_t listed;

@@ -10,7 +10,7 @@ static const char usage[] =
     "If FEED is -, it reads standard input.\n"
     "Prints for each ADDRESS, as 10.64.0.1, the rows that hold it, the shortest prefix first, each\n"
     "as FEED:LINE: the row, and then a sentence: the hop, the row that decides, and up to which\n"
-    "address the hop is the same; or that no listed prefix holds it.\n"
+    "address, from this one on, the hop is the same; or that no listed prefix holds it.\n"
     "LINE is the line that gave the prefix its hop: where rows of one prefix came, the last one.\n"
     "If rows of the feed were refused, or replaced an earlier hop, the counts go to standard error\n"
     "first: a route that is missing here may be among them. whelk-import names those rows.\n"
@@ -34,8 +34,9 @@ static int address_of(const char *text, uint32_t *address)
     return read.number == WHELK_ROW_TAKEN && read.next == (size_t)length;
 }
 
-/* Says the counts of an import of which rows were refused or replaced an earlier hop. */
-static void say_counts(const struct feed *feed)
+/* Says the counts of an import of which rows were refused or replaced an earlier hop. 0, or the status of a failed call: counts that can't be
+   said aren't passed over. */
+static int say_counts(const struct feed *feed)
 {
     const struct whelk_counts *c = &feed->counts;
     const struct {
@@ -43,11 +44,12 @@ static void say_counts(const struct feed *feed)
         size_t rows;
     } counts[] = {{"taken", c->taken}, {"shape", c->shape},       {"zeros", c->zeros},   {"range", c->range},
                   {"hostbits", c->hostbits}, {"replaced", c->replaced}, {"noroom", c->noroom}};
-    if (c->taken == c->rows) return;
+    if (c->taken == c->rows) return 0;
     fprintf(stderr, "%s: %s: rows %zu", tool, feed->name, c->rows);
     for (size_t i = 0; i < sizeof counts / sizeof *counts; i++)
         if (counts[i].rows) fprintf(stderr, ", %s %zu", counts[i].name, counts[i].rows);
     fputs(" (whelk-import names the refused rows, with --replaced the replacing ones too)\n", stderr);
+    return sent(stderr, "standard error");
 }
 
 /* The line that gave each row of the list its hop; NULL where there is no memory. */
@@ -86,16 +88,16 @@ static int say_why(const struct feed *feed, const size_t *lines, size_t runs, co
     }
     print_address(address);
     if (why.listed == 0) {
-        printf(" has no hop, since no listed prefix holds it; no address up to ");
+        printf(" has no hop, since no listed prefix holds it; from it up to ");
         print_address(last);
-        printf(" has one.\n");
+        printf(" no address has one.\n");
         return 1;
     }
     size_t shown = (size_t)((uint8_t *)memchr(text + prefix, ' ', length) - (text + prefix));
-    printf(" goes to hop %u, since %.*s (line %zu) holds it and no longer listed prefix does; all addresses up to ", whelk_lookup_hop(found),
-           (int)shown, (const char *)text + prefix, lines[why.place]);
+    printf(" goes to hop %u, since %.*s (line %zu) holds it and no longer listed prefix does; from it up to ", whelk_lookup_hop(found), (int)shown,
+           (const char *)text + prefix, lines[why.place]);
     print_address(last);
-    printf(" go to hop %u.\n", whelk_lookup_hop(found));
+    printf(" every address goes to hop %u.\n", whelk_lookup_hop(found));
     return 0;
 }
 
@@ -118,7 +120,8 @@ int main(int argc, char **argv)
     struct feed feed;
     int failed = import_feed(&feed, argv[first]);
     if (failed) return failed;
-    say_counts(&feed);
+    failed = say_counts(&feed);
+    if (failed) return failed;
     size_t *lines = lines_of(&feed), count = feed.counts.taken, room = 2 * count + 1;
     uint32_t *starts = malloc(room * sizeof *starts);
     uint16_t *run_hops = malloc(room * sizeof *run_hops);

@@ -171,7 +171,7 @@ pub record WhyForC : Type 0 where
 abbrev pub whyGaveC : WhelkReason → List ℕ → WhyForC
 whyGaveC answer places = record { answer = answer; places = places }
 
--- Rule 18.6: the place of the row that decides, and 0 if no row does. Nothing is listed then, so C can tell.
+-- Rule 18.6: the place of the row that decides, and 0 if no row does. Nothing is listed then, so with number 0 C can tell.
 abbrev pub placeForC : Option ℕ → ℕ
 placeForC none = 0
 placeForC (some p) = p

@@ -61,6 +61,6 @@ module _ (count : ℕ) (keys hops : List ℕ) (well : wellFormed count keys hops
       < lengthOf (getD keys (getD (placesOf a (rowsOf count keys hops)) k 0) 0)
   lengths-ascend = rw (places-are count keys hops well a) (longer-behind count keys hops well a count (le-refl count))
 
-  -- Rule 18.2: at most 33 rows hold an address, one of each length from 0 to 32.
+  -- Rule 18.1: at most 33 rows hold an address, one of each length from 0 to 32.
   pub at-most-33 : length (placesOf a (rowsOf count keys hops)) ≤ 33
   at-most-33 = rw (places-are count keys hops well a) (few-places count keys hops well a count (le-refl count))

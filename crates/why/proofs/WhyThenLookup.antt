@@ -7,12 +7,13 @@ use mathlib.Core.Bool.{true, false}
 use mathlib.Core.List.{List}
 use Prim.Native.Nat.{ℕ}
 use native.Mathlib.Omega.{arith}
-use lib.ListN.{length, getD}
+use lib.ListN.{length, getD, take}
 use lib.Dec.{ltb}
 use borrow.Author.Tests.{ltb-true, ltb-false}
 use Rattle.ground.specs.Numbers.{firstFault, outcome, done, illFormed}
 use Rattle.ground.specs.Slots.{written}
 use Rattle.ground.proofs.Numbers.{accepted-is}
+use Rattle.ground.proofs.Slots.{take-written}
 use Rattle.ground.proofs.Truth.{decided}
 use Rattle.routes.specs.Row.{ListLent, rowsLent}
 use Rattle.routes.specs.WellFormed.{wellFormed}
@@ -41,6 +42,20 @@ module _ (l : ListLent) (a : ℕ) (places : List ℕ) where
       → o ≡ told done (length (placesOf a (rowsLent l))) (reasonFor a (rowsLent l)) (written (placesOf a (rowsLent l)) places)
   unfolding why
   accepted o w e = w ∙ accepted-is numberOf (whyChecks l a places) _ _ (λ k. refl) (sym (ap numberOf w) ∙ e)
+
+  -- so the lent slots have the places listed, as many as the listing says; `Listed` says which these are
+  pub why-leaves : (r : Reason) (places′ : List ℕ) → whyGave r places′ ≡ why l a places → numberOf (whyGave r places′) ≡ done
+      → take (whyGave r places′ .listed) places′ ≡ placesOf a (rowsLent l)
+  why-leaves r places′ w e =
+      let is = accepted _ w e in
+      rw (ap (λ (o : WhyOutcome). o .listed) is, sym (left r places′) ∙ ap (λ (o : WhyOutcome). o .places) is)
+      (take-written (placesOf a (rowsLent l)) places (length (placesOf a (rowsLent l))) refl)
+    where
+      left : (r : Reason) (places′ : List ℕ) → whyGave r places′ .places ≡ places′
+      left (R.Row p n) places′ = refl
+      left R.Nothing places′ = refl
+      left R.IllFormed places′ = refl
+      left R.NoRoom places′ = refl
 
   module _ (well : wellFormed (l .count) (l .keys) (l .hops) ≡ true) where
     -- a well-formed list isn't refused with 11

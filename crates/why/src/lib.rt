@@ -13,7 +13,7 @@ ghost use Rattle.why.specs.Why.{placesOf, whyGave, why};
 ghost use Rattle.why.specs.Text.{whyText};
 use text::Written;
 
-// Rule 18.2: at most 33 rows hold an address, one of each length from 0 to 32.
+// Rule 18.1: at most 33 rows hold an address, one of each length from 0 to 32.
 pub const MOST_MATCHES: usize = 33;
 
 // What the listing gives: the place of the row that decides and how many places were listed, or that no listed row holds the address; 11
