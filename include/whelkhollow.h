@@ -320,6 +320,35 @@ uint32_t whelk_run_lookup(const uint8_t *bytes, size_t length, uint32_t address,
 uint32_t whelk_plain_lookup(size_t count, const uint64_t *keys, size_t keys_length, const uint16_t *hops, size_t hops_length,
                             uint32_t address) WHELK_CALL WHELK_READS(2, 3) WHELK_READS(4, 5);
 
+/* The most rows of a list that hold one address: one of each length from 0 to 32. */
+#define WHELK_MOST_MATCHES 33
+
+/* What a listing of reasons returns: its number, how many rows hold the address, and the place of the one that decides. Look at the number first:
+   on a refusal the rest is 0. With number 0 and listed 0 no row holds the address, and place is 0. */
+struct whelk_reason {
+    size_t number;
+    size_t listed;
+    size_t place;
+};
+
+/* Says why an address gets its hop: lists all rows that hold it, the shortest prefix first, and names the one that decides, which is the last of
+   them: it holds the address and no longer listed prefix does. Its hop is what a lookup gives. Time: linear in the list, which it checks.
+   Lend the list, and WHELK_MOST_MATCHES slots in places; that is always enough.
+   Returns number 0, how many rows hold the address and the place of the row that decides; or 11 if the list is ill-formed, or 13 if more rows hold
+   it than places has slots.
+   Leaves the places of these rows in places: the row at place p has keys[p] and hops[p]. Slots past them stay as they were. */
+struct whelk_reason whelk_why(size_t count, const uint64_t *keys, size_t keys_length, const uint16_t *hops, size_t hops_length,
+                              uint32_t address, size_t *places, size_t places_length)
+    WHELK_CALL WHELK_READS(2, 3) WHELK_READS(4, 5) WHELK_FILLS(7, 8);
+
+/* Writes the rows that hold an address as text, the shortest prefix first, each as whelk_write writes it. If none holds it there are 0 bytes.
+   Lend the list, and a buffer of WHELK_ROW_BYTES x WHELK_MOST_MATCHES bytes; that is always enough.
+   Returns a number and how many bytes the text has, for whelk_write_number and whelk_write_bytes. The number is 0, 11 if the list is ill-formed, or
+   13 if the text is longer than the buffer. (It is 4,294,967,296 x number + bytes.)
+   Leaves the text at the buffer's front, with no zero byte behind it. Bytes past it stay as they were. */
+uint64_t whelk_why_text(size_t count, const uint64_t *keys, size_t keys_length, const uint16_t *hops, size_t hops_length, uint32_t address,
+                        uint8_t *buffer, size_t buffer_length) WHELK_CALL WHELK_READS(2, 3) WHELK_READS(4, 5) WHELK_FILLS(7, 8);
+
 /* What a packing returns: its number, the width, which is at most 16, how many words were written, which is how many bases were too, and how
    many hops. */
 struct whelk_packed {

@@ -1,13 +1,9 @@
 /* whelk-import: reads a feed file of any size, or standard input, names every refused row, counts all, and prints the list or the corrections if
    asked. What an operator runs each night. Exit status: 0 if nothing was refused, 1 if something was, 2 if the call itself failed. */
 #include <arpa/inet.h>
-#include <errno.h>
-#include <signal.h>
-#include <stdio.h>
-#include <stdlib.h>
-#include <string.h>
 
-#include "whelkhollow.h"
+#define tool "whelk-import"
+#include "tool.h"
 
 static const char usage[] =
     "usage: whelk-import [--list] [--quiet] [--replaced] [--] [FILE]\n"
@@ -42,45 +38,6 @@ static const char usage[] =
 
 /* How many bytes of a refused row are printed. */
 #define ROW_SHOWN 200
-
-static int fail(const char *what, const char *why)
-{
-    fprintf(stderr, "whelk-import: %s: %s\n", what, why);
-    return 2;
-}
-
-/* 0 if all that was printed on a stream has gone out, else the status of a failed call. */
-static int sent(FILE *stream, const char *name)
-{
-    return fflush(stream) == 0 && !ferror(stream) ? 0 : fail(name, strerror(errno));
-}
-
-/* All bytes of a file; NULL with errno set where they can't be had. */
-static uint8_t *read_all(FILE *file, size_t *length)
-{
-    size_t room = 1 << 16, used = 0;
-    uint8_t *bytes = malloc(room);
-    while (bytes) {
-        size_t got = fread(bytes + used, 1, room - used, file);
-        used += got;
-        if (got == 0) {
-            if (ferror(file)) {
-                free(bytes);
-                return NULL;
-            }
-            *length = used;
-            return bytes;
-        }
-        if (used == room) {
-            uint8_t *more = realloc(bytes, room * 2);
-            if (!more) free(bytes);
-            bytes = more;
-            room *= 2;
-        }
-    }
-    errno = ENOMEM;
-    return NULL;
-}
 
 /* A row's bytes on one line, those that don't print as \xNN. A long row is cut, and its length said. */
 static void print_row(FILE *out, const uint8_t *row, size_t length)
@@ -204,12 +161,6 @@ static const struct {
 
 #define PATTERNS (sizeof patterns / sizeof *patterns)
 
-/* Whether a row was refused: neither taken nor put in the place of an earlier row's hop. */
-static int is_refused(uint8_t number)
-{
-    return number != WHELK_ROW_TAKEN && number != WHELK_ROW_REPLACED;
-}
-
 /* Names the refused rows, where there is a stream for that, and counts those of bad shape by their pattern. */
 static void name_refused(FILE *out, const char *name, const uint8_t *feed, size_t length, const uint8_t *report, size_t *fit)
 {
@@ -228,18 +179,6 @@ static void name_refused(FILE *out, const char *name, const uint8_t *feed, size_
         }
         at = end + 1;
     }
-}
-
-/* The place of a listed key. */
-static size_t place_of(const uint64_t *keys, size_t count, uint64_t key)
-{
-    size_t low = 0;
-    while (count > 1) {
-        size_t half = count / 2;
-        if (keys[low + half] <= key) low += half;
-        count -= half;
-    }
-    return low;
 }
 
 /* Names every row whose hop replaced another, with the line and the hop of the row that it replaced: the last one before it that had the prefix's
@@ -354,51 +293,33 @@ int main(int argc, char **argv)
         } else if (strcmp(argv[i], "--replaced") == 0) {
             replaced = 1;
         } else if (strcmp(argv[i], "--version") == 0) {
-            puts("whelk-import " WHELK_VERSION);
-            return sent(stdout, "standard output");
+            return say(tool " " WHELK_VERSION "\n");
         } else if (strcmp(argv[i], "--help") == 0 || strcmp(argv[i], "-h") == 0) {
-            fputs(usage, stdout);
-            return sent(stdout, "standard output");
+            return say(usage);
         } else {
             return fail(argv[i], "unknown option (--help tells)");
         }
     }
-    FILE *file = stdin;
-    if (name && strcmp(name, "-") != 0) {
-        file = fopen(name, "rb");
-        if (!file) return fail(name, strerror(errno));
-    } else {
-        name = "-";
-    }
-    size_t length = 0;
-    uint8_t *feed = read_all(file, &length);
-    if (!feed) return fail(name, strerror(errno));
-
-    size_t rows = 1;
-    for (size_t i = 0; i < length; i++) rows += feed[i] == '\n';
-    size_t room = rows < WHELK_TOP_ROWS ? rows : WHELK_TOP_ROWS;
-    uint64_t *keys = malloc(room * sizeof *keys);
-    uint16_t *hops = malloc(room * sizeof *hops);
-    uint8_t *report = malloc(rows);
-    if (!keys || !hops || !report) return fail(name, strerror(ENOMEM));
-
-    struct whelk_counts counts = whelk_import(feed, length, keys, room, hops, room, report, rows);
-    if (counts.number != WHELK_DONE) return fail(name, whelk_number_text(counts.number));
+    struct feed feed;
+    int failed = import_feed(&feed, name);
+    if (failed) return failed;
+    name = feed.name;
+    struct whelk_counts counts = feed.counts;
 
     /* What was refused is said first, so that it is said too if the list can't be written. */
     FILE *out = list ? stderr : stdout;
     if (list) setvbuf(stderr, NULL, _IOFBF, BUFSIZ);
     size_t fit[PATTERNS] = {0};
-    name_refused(quiet ? NULL : out, name, feed, length, report, fit);
+    name_refused(quiet ? NULL : out, name, feed.bytes, feed.length, feed.report, fit);
     if (replaced) {
-        int failed = name_replaced(out, name, feed, length, report, keys, counts.taken);
+        failed = name_replaced(out, name, feed.bytes, feed.length, feed.report, feed.keys, counts.taken);
         if (failed) return failed;
     }
     fprintf(out, "rows %zu\ntaken %zu\nshape %zu\nzeros %zu\nrange %zu\nhostbits %zu\nreplaced %zu\nnoroom %zu\n", counts.rows,
             counts.taken, counts.shape, counts.zeros, counts.range, counts.hostbits, counts.replaced, counts.noroom);
     print_hints(out, name, fit);
-    int failed = sent(out, list ? "standard error" : "standard output");
-    if (!failed && list) failed = print_list(counts.taken, keys, hops);
+    failed = sent(out, list ? "standard error" : "standard output");
+    if (!failed && list) failed = print_list(counts.taken, feed.keys, feed.hops);
     if (failed) return failed;
     return counts.taken + counts.replaced == counts.rows ? 0 : 1;
 }

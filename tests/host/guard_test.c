@@ -30,7 +30,8 @@ static struct export {
 } exports[] = {{"whelk_import", 0, 0},       {"whelk_import_tally", 0, 0}, {"whelk_pull", 0, 0},       {"whelk_write", 0, 0},
                {"whelk_build", 0, 0},        {"whelk_pair_check", 0, 0},   {"whelk_plain_lookup", 0, 0}, {"whelk_run_lookup_slices", 0, 0},
                {"whelk_run_lookup", 0, 0},   {"whelk_pack", 0, 0},         {"whelk_packed_lookup", 0, 0}, {"whelk_announce", 0, 0},
-               {"whelk_withdraw", 0, 0},     {"whelk_split", 0, 0},        {"whelk_half_lookup", 0, 0},  {"whelk_build_half", 0, 0}};
+               {"whelk_withdraw", 0, 0},     {"whelk_split", 0, 0},        {"whelk_half_lookup", 0, 0},  {"whelk_build_half", 0, 0},
+               {"whelk_why", 0, 0},          {"whelk_why_text", 0, 0}};
 #define EXPORTS (sizeof exports / sizeof *exports)
 
 static void call(const char *name, int ok)
@@ -218,6 +219,33 @@ static void writes(void)
     call("whelk_write", whelk_write(0, SLICE(KEYS), SLICE(HOPS), SLICE(OUT_A)) == 0 && stays(OUT_A));
 }
 
+/* All three rows hold 10.64.0.1. */
+static void reasons(void)
+{
+    static const size_t all[ROWS] = {0, 1, 2};
+    size_t text = strlen(feed_text);
+    EACH(keys, ROWS, hops, ROWS)
+        for (int b = 0; b < 4; b++) {
+            int ill = keys < ROWS || hops < ROWS;
+            size_t room = tried(b, ROWS), buffer = tried(b, text);
+            size_t number = ill ? 11 : room < ROWS ? 13 : 0, of_text = ill ? 11 : buffer < text ? 13 : 0;
+            lend_list(keys, hops);
+            lend(OUT_A, room, sizeof *all, NULL, 0);
+            struct whelk_reason r = whelk_why(ROWS, SLICE(KEYS), SLICE(HOPS), 0x0a400001, SLICE(OUT_A));
+            call("whelk_why", r.number == number && r.listed == (number ? 0 : ROWS) && r.place == (number ? 0 : 2) && list_stays() &&
+                                   (number ? stays(OUT_A) : left(OUT_A, all, ROWS)));
+            lend(OUT_A, buffer, 1, NULL, 0);
+            uint64_t wrote = whelk_why_text(ROWS, SLICE(KEYS), SLICE(HOPS), 0x0a400001, SLICE(OUT_A));
+            call("whelk_why_text", whelk_write_number(wrote) == of_text && whelk_write_bytes(wrote) == (of_text ? 0 : text) && list_stays() &&
+                                        (of_text ? stays(OUT_A) : left(OUT_A, feed_text, text)));
+        }
+    lend_list(0, 0);
+    lend(OUT_A, 0, sizeof *all, NULL, 0);
+    struct whelk_reason none = whelk_why(0, SLICE(KEYS), SLICE(HOPS), 0x0a400001, SLICE(OUT_A));
+    call("whelk_why", none.number == 0 && none.listed == 0 && none.place == 0 && stays(OUT_A));
+    call("whelk_why_text", whelk_why_text(0, SLICE(KEYS), SLICE(HOPS), 0x0a400001, SLICE(OUT_A)) == 0 && stays(OUT_A));
+}
+
 static void builds(void)
 {
     for (int half = 0; half < 2; half++)
@@ -397,6 +425,7 @@ int main(void)
     pulls();
     lists();
     writes();
+    reasons();
     builds();
     pairs();
     run_lookups();

@@ -20,6 +20,10 @@ class Packed(Structure):
     _fields_ = [(name, c_size_t) for name in ("number", "width", "words", "hops")]
 
 
+class Reason(Structure):
+    _fields_ = [(name, c_size_t) for name in ("number", "listed", "place")]
+
+
 class Edit(Structure):
     _fields_ = [("number", c_size_t), ("changed", c_uint64), ("count", c_size_t), ("runs", c_size_t)]
 
@@ -31,6 +35,8 @@ for name, result, arguments in (
     ("whelk_import_tally", c_size_t, (*(4 * SLICE), c_void_p)),
     ("whelk_pull", Row, (*SLICE, c_size_t)),
     ("whelk_write", c_uint64, (c_size_t, *(3 * SLICE))),
+    ("whelk_why", Reason, (c_size_t, *SLICE, *SLICE, c_uint32, *SLICE)),
+    ("whelk_why_text", c_uint64, (c_size_t, *SLICE, *SLICE, c_uint32, *SLICE)),
     ("whelk_plain_lookup", c_uint32, (c_size_t, *SLICE, *SLICE, c_uint32)),
     ("whelk_build", c_uint64, (c_size_t, *(4 * SLICE))),
     ("whelk_run_lookup_slices", c_uint64, (c_size_t, *SLICE, *SLICE, c_uint32, c_void_p)),
@@ -57,12 +63,15 @@ feed = b"10.0.0.0/8 7\n10.64.0.0/16 9\n10.0.0.1/8 7\n"
 feed = (c_uint8 * len(feed)).from_buffer_copy(feed)
 keys, hops, report = (c_uint64 * 4)(), (c_uint16 * 4)(), (c_uint8 * 4)()
 starts, run_hops, text = (c_uint32 * 9)(), (c_uint16 * 9)(), (c_uint8 * 30)(*(30 * b"-"))
+why_text = (c_uint8 * 15)(*(15 * b"-"))
 counts, last = library.whelk_import(*lent(feed, keys, hops, report)), c_uint32(9)
 answers = [
     ([getattr(counts, name) for name, _ in Counts._fields_], [0, 3, 2, 0, 0, 1, 0, 0, 0]),
     (list(report), [0, 0, 3, 0]),
     (library.whelk_write(2, *lent(keys, hops, text)), 28),
     (bytes(text), b"10.0.0.0/8 7\n10.64.0.0/16 9\n--"),
+    (library.whelk_why_text(2, *lent(keys, hops), 0xA000001, *lent(why_text)), 13),
+    (bytes(why_text), b"10.0.0.0/8 7\n--"),
     (library.whelk_build(2, *lent(keys, hops, starts, run_hops)), 5),
     (list(zip(starts, run_hops))[:5], [(0, 0), (10 << 24, 7), (0xA400000, 9), (0xA410000, 7), (11 << 24, 0)]),
     (library.whelk_pair_check(2, *lent(keys, hops), 5, *lent(starts, run_hops)), 0),
@@ -73,6 +82,11 @@ answers = [
     (library.whelk_run_lookup_slices(0, *lent(starts, run_hops), 0, byref(last)), 65536 * 11),
     (last.value, 0xA40FFFF),
 ]
+places = (c_size_t * 3)(9, 9, 9)
+why = library.whelk_why(2, *lent(keys, hops), 0xA400001, *lent(places))
+answers += [((why.number, why.listed, why.place, list(places)), (0, 2, 1, [0, 1, 9]))]
+why = library.whelk_why(2, *lent(keys, hops), 0xB000000, *lent(places))
+answers += [((why.number, why.listed, why.place, list(places)), (0, 0, 0, [0, 1, 9]))]
 tally = Tally(9, 9, 9, 9, 9, 9, 9, 9)
 answers += [
     (library.whelk_import_tally(*lent(feed, keys, hops), report, 2, byref(tally)), 12),

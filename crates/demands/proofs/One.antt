@@ -8,6 +8,7 @@
 use mathlib.Core.Path.{_≡_, refl, sym, ap, _∙_}
 use mathlib.Core.Bool.{Bool, true, false, cond}
 use mathlib.Core.List.{List}
+use mathlib.Core.Option.{none}
 use Prim.Native.Nat.{ℕ, _+_, _*_, _/_, _<_}
 use native.Mathlib.Omega.{arith}
 use lib.ListN.{length, getD, take}
@@ -40,6 +41,9 @@ use Rattle.runs.specs.Lookup.{BytesLookupOutcome, held, bytesLookupGave, bytesL
 use Rattle.runs.specs.Pair.{Pair, pairGave, pairCheck, pairChecks}
 use Rattle.text.specs.declared.Written.{Written}
 use Rattle.text.specs.Text.{WriteOutcome, wrote, writeGave, write, writeChecks}
+use Rattle.why.specs.declared.Reason.{Reason}
+use Rattle.why.specs.Why.{WhyOutcome, told, whyGave, why, whyChecks}
+use Rattle.why.specs.Text.{whyText, whyTextChecks}
 use Rattle.segment.specs.declared.Packing.{Packing}
 use Rattle.segment.specs.declared.PackedHop.{PackedHop}
 use Rattle.segment.specs.Pack.{PackLent, PackOutcome, packRefused, packGave, pack, packChecks}
@@ -150,9 +154,13 @@ pub record One : Type 0 where
       → First (λ o. o .number) (splitChecks k l out) (λ n. splitInto n 0 (out .keys) (out .labels)) (splitGave r keys labels)
   pub writes : (l : ListLent) (buffer : List ℕ) (r : Written) (out : List ℕ) → writeGave r out ≡ write l buffer
       → First (λ o. o .number) (writeChecks l buffer) (λ n. wrote n 0 buffer) (writeGave r out)
+  pub whys : (l : ListLent) (a : ℕ) (places : List ℕ) (r : Reason) (left : List ℕ) → whyGave r left ≡ why l a places
+      → First (λ o. o .number) (whyChecks l a places) (λ n. told n 0 none places) (whyGave r left)
+  pub why-texts : (l : ListLent) (a : ℕ) (buffer : List ℕ) (r : Written) (out : List ℕ) → writeGave r out ≡ whyText l a buffer
+      → First (λ o. o .number) (whyTextChecks l a buffer) (λ n. wrote n 0 buffer) (writeGave r out)
 
 pub refusals : One
-unfolding plainLookup halfLookup import buildOf pairCheck runLookup bytesLookup pack packedLookup announce withdraw split write
+unfolding plainLookup halfLookup import buildOf pairCheck runLookup bytesLookup pack packedLookup announce withdraw split write why whyText
 refusals = record {
   plain-lookup = λ l a r. first-of looked _ _ _ (λ n. refl) refl (orders .lookup l) (lookupGave r);
   half-lookup = λ l a r. first-of looked _ _ _ (λ n. refl) refl (orders .half l) (lookupGave r);
@@ -177,6 +185,10 @@ refusals = record {
   splits = λ k l out r keys labels.
       first-of (λ (o : SplitOutcome). o .number) _ _ _ (λ n. refl) refl (orders .split k l out) (splitGave r keys labels);
   writes = λ l buffer r out. first-of (λ (o : WriteOutcome). o .number) _ _ _ (λ n. refl) refl (orders .write l buffer) (writeGave r out);
+  whys = λ l a places r left.
+      first-of (λ (o : WhyOutcome). o .number) _ _ _ (λ n. refl) refl (orders .why l a places) (whyGave r left);
+  why-texts = λ l a buffer r out.
+      first-of (λ (o : WriteOutcome). o .number) _ _ _ (λ n. refl) refl (orders .whyText l a buffer) (writeGave r out);
 }
 
 -- an import that is done: every row of the feed is counted, as taken, as replaced or under one reason, and has its number in the

@@ -9,6 +9,8 @@ use Rattle.routes.specs.Row.{ListLent}
 use Rattle.routes.specs.Lookup.{lookupChecks, halfChecks}
 use Rattle.feed.specs.Import.{ImportLent, importChecks}
 use Rattle.text.specs.Text.{writeChecks}
+use Rattle.why.specs.Why.{whyChecks}
+use Rattle.why.specs.Text.{whyTextChecks}
 use Rattle.runs.specs.Table.{RunsLent}
 use Rattle.runs.specs.Build.{SlotsLent, buildChecks}
 use Rattle.runs.specs.Pair.{Pair, pairChecks}
@@ -28,6 +30,8 @@ pub record Orders : Type 0 where
   pub half : (l : ListLent) → InOrder (halfChecks l)
   pub imports : (feed : List ℕ) (l : ImportLent) → InOrder (importChecks feed l)
   pub write : (l : ListLent) (buffer : List ℕ) → InOrder (writeChecks l buffer)
+  pub why : (l : ListLent) (a : ℕ) (places : List ℕ) → InOrder (whyChecks l a places)
+  pub whyText : (l : ListLent) (a : ℕ) (buffer : List ℕ) → InOrder (whyTextChecks l a buffer)
   pub build : (half : Bool) (l : ListLent) (s : SlotsLent) → InOrder (buildChecks half l s)
   pub pair : (p : Pair) → InOrder (pairChecks p)
   pub run : (t : RunsLent) → InOrder (runChecks t)
@@ -40,12 +44,14 @@ pub record Orders : Type 0 where
   pub split : (k : ℕ) (l : ListLent) (out : SplitLent) → InOrder (splitChecks k l out)
 
 pub orders : Orders
-unfolding past inOrder lookupChecks halfChecks importChecks writeChecks buildChecks pairChecks runChecks bytesChecks heldChecks packChecks packedChecks announceChecks withdrawChecks splitChecks
+unfolding past inOrder lookupChecks halfChecks importChecks writeChecks whyChecks whyTextChecks buildChecks pairChecks runChecks bytesChecks heldChecks packChecks packedChecks announceChecks withdrawChecks splitChecks
 orders = record {
   lookup = λ l. refl;
   half = λ l. refl;
   imports = λ feed l. refl;
   write = λ l buffer. refl;
+  why = λ l a places. refl;
+  whyText = λ l a buffer. refl;
   build = λ half l s. refl;
   pair = λ p. refl;
   run = λ t. refl;

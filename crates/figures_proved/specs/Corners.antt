@@ -33,6 +33,8 @@ use Rattle.segment.specs.Lookup.{segmentLent, packedLookup}
 use Rattle.split.specs.Split.{secondHalf, splitLent, SplitOutcome, split}
 use Rattle.text.specs.Text.{textOf, WriteOutcome, write}
 use Rattle.text.specs.Program.{bytes, countLines, runLines}
+use Rattle.why.specs.Why.{placesOf, reasonFor, WhyOutcome, why}
+use Rattle.why.specs.Text.{whyTextOf, whyText}
 use Rattle.figures_proved.specs.Figure.{Figure, figure, one, asNumber, passes, fails, prefix, route}
 use Rattle.figures_proved.specs.Marked.{listA, q, fiveRows}
 
@@ -70,6 +72,10 @@ lent keys hops report = record { keys = keys; hops = hops; report = report }
 -- 10.0.0.0/8 hop 1 with 10.64.0.0/10 hop 2 in it
 abbrev pub nested : List Row
 nested = route 10 0 0 0 8 1 ∷ route 10 64 0 0 10 2 ∷ []
+
+-- what the listing for 10.64.0.1 does with it and some places
+abbrev pub whyNested : List ℕ → WhyOutcome
+whyNested places = why (listLent 2 (keysOf nested) (hopsOf nested)) (dotted 10 64 0 1) places
 
 -- the number of a split with room for two rows
 abbrev pub splitOf : ℕ → ℕ → List ℕ → List ℕ → ℕ
@@ -338,4 +344,17 @@ corners =
     ∷ figure (announce 0 8 1 illPair .number ∷ withdraw 0 8 illPair .number ∷ []) (11 ∷ 11 ∷ [])
     ∷ figure (announce 0 8 1 illPair .count ∷ announce 0 8 1 illPair .changed ∷ []) (0 ∷ 0 ∷ [])
     ∷ figure (announce 0 8 1 illPair .starts) (5 ∷ [])
+    -- Rules 18.1 and 18.2: places count from 0, shortest first, and the reason is the last; at both ends of the address space too.
+    ∷ figure (placesOf (dotted 200 27 112 170) listA) (0 ∷ 1 ∷ 2 ∷ 3 ∷ 4 ∷ [])
+    ∷ figure (asList (reasonFor (dotted 200 27 112 170) listA)) (4 ∷ [])
+    ∷ figure (placesOf (dotted 200 28 0 0) listA ++ asList (reasonFor (dotted 200 28 0 0) listA)) []
+    ∷ figure (placesOf 4294967295 ends ++ asList (reasonFor 4294967295 ends)) (0 ∷ 1 ∷ 2 ∷ 2 ∷ [])
+    ∷ figure (placesOf 0 ends ++ asList (reasonFor 0 ends)) (0 ∷ 0 ∷ [])
+    -- Rules 18.3 and 18.4: two places in one slot are 13, and it stays; a slot behind them stays too. An ill-formed list is 11 without any room.
+    ∷ figure (whyNested (7 ∷ []) .number ∷ whyNested (7 ∷ []) .listed ∷ whyNested (7 ∷ []) .places) (13 ∷ 0 ∷ 7 ∷ [])
+    ∷ figure (whyNested (7 ∷ 8 ∷ 9 ∷ []) .number ∷ whyNested (7 ∷ 8 ∷ 9 ∷ []) .listed ∷ whyNested (7 ∷ 8 ∷ 9 ∷ []) .places) (0 ∷ 2 ∷ 0 ∷ 1 ∷ 9 ∷ [])
+    ∷ figure (why illHalf 0 [] .number ∷ whyText illHalf 0 [] .number ∷ []) (11 ∷ 11 ∷ [])
+    -- Rule 18.5: the text of the rows that hold an address, and of none.
+    ∷ figure (whyTextOf (dotted 10 64 0 1) nested) (bytes "10.0.0.0/8 1\n10.64.0.0/10 2\n")
+    ∷ figure (whyTextOf (dotted 11 0 0 0) nested) []
     ∷ []

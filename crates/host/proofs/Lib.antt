@@ -4,4 +4,5 @@ mod EditCarried
 mod ImportCarried
 mod PackCarried
 mod PullCarried
+mod WhyCarried
 pub mod Settled

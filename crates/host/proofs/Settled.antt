@@ -1,6 +1,6 @@
--- What C gets from an import, a pull, a run lookup, a build, a packing, an edit, a list writer and a split is settled: two outcomes that
--- keep the promise for one input are the same, in what is returned and in all lent memory. The other lookups and the pair check promise an
--- equation.
+-- What C gets from an import, a pull, a run lookup, a build, a packing, an edit, a list writer (of rows that hold an address too), a
+-- listing of reasons and a split is settled: two outcomes that keep the promise for one input are the same, in what is returned and in all lent memory.
+-- The other lookups and the pair check promise an equation.
 -- Assumes nothing.
 use mathlib.Core.Path.{_≡_, sym, ap, _∙_}
 use mathlib.Core.List.{List}
@@ -13,8 +13,9 @@ use Rattle.edit.specs.Edit.{Edited}
 use Rattle.host.specs.declared.WhelkCounts.{WhelkCounts}
 use Rattle.host.specs.declared.WhelkPacked.{WhelkPacked}
 use Rattle.host.specs.declared.edits.WhelkEdit.{WhelkEdit}
+use Rattle.host.specs.declared.reasons.WhelkReason.{WhelkReason}
 use Rattle.host.specs.declared.rows.WhelkRow.{WhelkRow}
-use Rattle.host.specs.Exports.{pullForC, HostTallyGave, ProbedForC, probedGaveC, HeldForC, heldGaveC}
+use Rattle.host.specs.Exports.{pullForC, HostTallyGave, ProbedForC, probedGaveC, HeldForC, heldGaveC, WhyForC, whyGaveC}
 use Rattle.host.specs.Exports.{hostImportGave, hostPackGave, hostEditGave, BuildForC, buildGaveC, WriteForC, writeGaveC, SplitForC, splitGaveC}
 use Rattle.host.proofs.ImportCarried.{toC}
 
@@ -85,3 +86,6 @@ pub host-split-settled : (o : SplitForC) (r r′ : ℕ) (k k′ h h′ : List �
 host-split-settled o r r′ k k′ h h′ e e′ =
     let same = e ∙ sym e′ in
     (ap (λ (x : SplitForC). x .answer) same, ap (λ (x : SplitForC). x .keys) same, ap (λ (x : SplitForC). x .labels) same)
+
+pub host-why-settled : (o : WhyForC) (r r′ : WhelkReason) (p p′ : List ℕ) → whyGaveC r p ≡ o → whyGaveC r′ p′ ≡ o → (r ≡ r′) × (p ≡ p′)
+host-why-settled o r r′ p p′ e e′ = let same = e ∙ sym e′ in (ap (λ (x : WhyForC). x .answer) same, ap (λ (x : WhyForC). x .places) same)

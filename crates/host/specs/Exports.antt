@@ -1,5 +1,5 @@
--- Rules 7.9 and 7.10: what the exports return to C. An import, a pull, a packing and an edit give a struct, and each other call puts its
--- numbers into one. A run lookup leaves the last address in lent memory.
+-- Rules 7.9, 7.10 and 18.6: what the exports return to C. An import, a pull, a packing, an edit and a listing of reasons give a struct, and
+-- each other call puts its numbers into one. A run lookup leaves the last address in lent memory.
 -- Assumes nothing.
 use mathlib.Core.Path.{_≡_}
 use mathlib.Core.Bool.{cond}
@@ -21,9 +21,11 @@ use Rattle.segment.specs.Pack.{PackOutcome}
 use Rattle.edit.specs.Edit.{Edited, editOutcome}
 use Rattle.split.specs.Split.{SplitOutcome}
 use Rattle.text.specs.Text.{WriteOutcome}
+use Rattle.why.specs.Why.{WhyOutcome}
 use Rattle.host.specs.declared.WhelkCounts.{WhelkCounts}
 use Rattle.host.specs.declared.WhelkPacked.{WhelkPacked}
 use Rattle.host.specs.declared.edits.WhelkEdit.{WhelkEdit}
+use Rattle.host.specs.declared.reasons.WhelkReason.{WhelkReason}
 use Rattle.host.specs.declared.rows.WhelkRow.{WhelkRow}
 
 -- Rule 4.5: the eight counts that C gets, all rows and then one for each row number.
@@ -160,3 +162,21 @@ splitGaveC answer keys labels = record { answer = answer; keys = keys; labels = 
 
 unfoldable pub splitForC : SplitOutcome → SplitForC
 splitForC o = splitGaveC (partedForC o) (o .keys) (o .labels)
+
+-- what a listing returns to C and leaves: a struct, and the places
+pub record WhyForC : Type 0 where
+  pub answer : WhelkReason
+  pub places : List ℕ
+
+abbrev pub whyGaveC : WhelkReason → List ℕ → WhyForC
+whyGaveC answer places = record { answer = answer; places = places }
+
+-- Rule 18.6: the place of the row that decides, and 0 if no row does. Nothing is listed then, so with number 0 C can tell.
+abbrev pub placeForC : Option ℕ → ℕ
+placeForC none = 0
+placeForC (some p) = p
+
+-- Rule 18.6: a listing gives C a struct of its number, how many places it listed, and the place of the row that decides.
+abbrev pub whyForC : WhyOutcome → WhyForC
+whyForC o =
+    whyGaveC (record { number = o .number; listed = o .listed; place = placeForC (o .reason) }) (o .places)

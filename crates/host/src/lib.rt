@@ -2,6 +2,7 @@
 // 7.9 and 7.10; include/whelkhollow.h declares what is exported here.
 pub mod checks;
 pub mod edits;
+pub mod reasons;
 pub mod rows;
 
 ghost use Rattle.host.specs.Exports.{hostImportGave, lookupForC, builtForC, buildGaveC, buildForC};

@@ -1,0 +1,7 @@
+mod Places
+mod Walking
+pub mod Listed
+pub mod ReasonTrue
+mod Outcome
+pub mod WhyThenLookup
+pub mod Settled
