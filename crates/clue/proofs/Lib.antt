@@ -1,0 +1,7 @@
+pub mod Truth
+pub mod Cut
+pub mod Clue
+pub mod Keys
+pub mod Rows
+pub mod Around
+pub mod Final
