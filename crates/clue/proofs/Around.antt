@@ -6,7 +6,7 @@ use mathlib.Core.Logic.{_⊎_, inl, inr, ⊎-elim}
 use mathlib.Core.Bool.{Bool, true, false, _&&_}
 use mathlib.Core.List.{List, [], _∷_}
 use mathlib.Core.Option.{Option, none, some}
-use Prim.Native.Nat.{ℕ, suc, _+_, _≤_, _<_, zero-le}
+use Prim.Native.Nat.{ℕ, suc, _+_, _-_, _≤_, _<_, zero-le}
 use native.Mathlib.Numerals.{add-one}
 use native.Mathlib.Omega.{arith}
 use lib.ListN.{length, getD}
@@ -17,10 +17,15 @@ use Rattle.ground.specs.Column.{ascends, isIn, lower}
 use Rattle.cidr.specs.Prefix.{lengthOf, holds, covers}
 use Rattle.routes.specs.Row.{Row, keysOf, hopsOf, those, keepRow}
 use Rattle.routes.specs.Plain.{longer, longest, hopOf}
+use Rattle.routes.specs.WellFormed.{wellFormed}
+use Rattle.routes.specs.declared.Place.the-variants.{At, Missing}
+use Rattle.routes.specs.Place.{placeIn}
 use Rattle.clue.specs.Clue.{clueOf, around, hopAround}
 use Rattle.clue.proofs.Truth.{decided, never-both, and-left, and-right, and-both, same-test, or-neither, cond-true, cond-false}
 use Rattle.clue.proofs.Clue.{clue-length, clue-holds, covers-clue, holds-clue}
-use Rattle.clue.proofs.Keys.{Order, before, same, after, order, ascends-rest, lower-past, lower-none, in-past, in-none}
+use Rattle.clue.proofs.Keys.{Order, before, same, after, order, ascends-rest, lower-past, lower-none, in-past, in-none, at-place}
+use Rattle.clue.proofs.Places.{at-in, missing-out}
+use Rattle.clue.proofs.Rows.{allRows, well-ascends, paired, keys-are, hop-at, keys-ascend}
 
 -- the keys shorter than a length that hold the address, and the hop of the longest row of these
 abbrev shorter : ℕ → ℕ → ℕ → Bool
@@ -184,3 +189,35 @@ module _ (rows : List Row) (a : ℕ) where
   unfolding hopShorter
   shorter-none = ap (λ l. hopOf (longest l)) (those-agree (shorter a 0) (λ key. false) rows (λ key m. rw (le-ltb (lengthOf key) 0 zero-le)))
       ∙ none-passes rows
+
+-- the same of two slices that are a well-formed list, by the place of a key among the first
+pub place-within : (keys hops : List ℕ) → wellFormed (length keys) keys hops ≡ true → (key i : ℕ) → placeIn keys key ≡ At i
+    → i < length hops
+place-within keys hops w key i e =
+    let p = at-in keys key i e in
+    omega (arith, at-place key keys (keys-ascend keys hops w) (p .0) .0, p .1, paired keys hops w)
+
+module _ (keys hops : List ℕ) (w : wellFormed (length keys) keys hops ≡ true) (len a left : ℕ) (short : left ≤ 33)
+    (has-say : hopAround (allRows keys hops) (clueOf len a) ≡ hopShorter (allRows keys hops) a left) (some : 0 < left) (key : ℕ)
+    (is : key ≡ clueOf (left - 1) a) where
+  one : left - 1 + 1 ≡ left
+  one = omega arith
+
+  keys-in : isIn key keys ≡ isIn (clueOf (left - 1) a) (keysOf (allRows keys hops))
+  keys-in = rw (is, keys-are keys hops w)
+
+  pub place-hop : (i : ℕ) → placeIn keys key ≡ At i → getD hops i 0 ≡ hopAround (allRows keys hops) (clueOf len a)
+  place-hop i e =
+      let p = at-in keys key i e in
+      let there : lower key keys < length keys = at-place key keys (keys-ascend keys hops w) (p .0) .0 in
+      let found = shorter-found (allRows keys hops) a (left - 1) (omega arith) (well-ascends (length keys) keys hops w)
+      (sym keys-in ∙ p .0) in
+      rw (p .1)
+      (sym (hop-at keys hops w (lower key keys) there) ∙ sym (has-say ∙ sym (ap (hopShorter (allRows keys hops) a) one) ∙ found
+      ∙ rw (keys-are keys hops w, is)))
+
+  pub place-missing : (i : ℕ) → placeIn keys key ≡ Missing i
+      → hopAround (allRows keys hops) (clueOf len a) ≡ hopShorter (allRows keys hops) a (left - 1)
+  place-missing i e =
+      has-say ∙ sym (ap (hopShorter (allRows keys hops) a) one)
+      ∙ shorter-next (allRows keys hops) a (left - 1) (sym keys-in ∙ missing-out keys key i e .0)
