@@ -54,6 +54,10 @@ ascends-at (x ∷ xs) a zero (suc j) l m = first-least x xs a j (omega arith)
 ascends-at (x ∷ xs) a (suc i) (suc j) l m = ascends-at xs (ascends-rest x xs a) i j (omega arith) (omega arith)
 
 module _ (k : ℕ) where
+  pub lower-nil : lower k [] ≡ 0
+  unfolding lower among
+  lower-nil = refl
+
   pub lower-past : (x : ℕ) (xs : List ℕ) → x < k → lower k (x ∷ xs) ≡ suc (lower k xs)
   unfolding lower among
   lower-past x xs l = rw (lt-ltb x k l)

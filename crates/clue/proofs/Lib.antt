@@ -5,4 +5,5 @@ pub mod Keys
 pub mod Places
 pub mod Rows
 pub mod Around
+pub mod Extension
 pub mod Final
