@@ -6,4 +6,5 @@ pub mod Places
 pub mod Rows
 pub mod Around
 pub mod Extension
+pub mod EntryTest
 pub mod Final

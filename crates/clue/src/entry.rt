@@ -59,14 +59,18 @@ pub fn extension(keys: &[u64], hops: &[u16], key: u64) -> u8
 }
 
 // Rule 19.5: whether an entry is the list's for its clue.
-pub fn entry_ok(keys: &[u64], hops: &[u16], key: u64, hop: u16, mark: u8) -> bool
+pub fn entry_ok(keys: &[u64], hops: &[u16], key: u64, hop: u16, marked: u8) -> bool
     requires { ⌜ wellFormed (length (now keys)) (now keys) (now hops) ≡ true ⌝ }
+    ensures { λ r.
+        ⌜ r ≡ (isPrefix key
+        && (eqb hop (hopAround (rowsOf (length (now (keys .entry))) (now (keys .entry)) (now (hops .entry))) key)
+        && eqb marked (mark (extended (rowsOf (length (now (keys .entry))) (now (keys .entry)) (now (hops .entry))) key)))) ⌝ }
 {
     if !cidr::is_prefix(key) {
         return false;
     }
-    if hop_around(keys, hops, cidr::network(key), key % 64) != hop {
+    if hop != hop_around(keys, hops, cidr::network(key), key % 64) {
         return false;
     }
-    extension(keys, hops, key) == mark
+    marked == extension(keys, hops, key)
 }

@@ -97,7 +97,12 @@ pub fn build(
 }
 
 // Rule 19.5: whether entries are the list's for their clues.
-fn entries_ok(keys: &[u64], hops: &[u16], ekeys: &[u64], ehops: &[u16], marks: &[u8]) -> bool {
+fn entries_ok(keys: &[u64], hops: &[u16], ekeys: &[u64], ehops: &[u16], marks: &[u8]) -> bool
+    requires { ⌜ wellFormed (length (now keys)) (now keys) (now hops) ≡ true ⌝ }
+    ensures { λ r.
+        ⌜ r ≡ itsEntries (rowsOf (length (now (keys .entry))) (now (keys .entry)) (now (hops .entry)))
+        (entriesLent (now (ekeys .entry)) (now (ehops .entry)) (now (marks .entry))) ⌝ }
+{
     let n = ekeys.len();
     if ehops.len() != n {
         return false;
