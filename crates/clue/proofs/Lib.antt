@@ -7,4 +7,6 @@ pub mod Rows
 pub mod Around
 pub mod Extension
 pub mod EntryTest
+pub mod Halfway
+pub mod QuickOutcomes
 pub mod Final
