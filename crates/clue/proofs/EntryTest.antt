@@ -16,8 +16,12 @@ use Rattle.ground.specs.Slots.{same}
 use Rattle.ground.specs.Column.{below, ascends}
 use Rattle.cidr.specs.Prefix.{isPrefix}
 use Rattle.routes.specs.Row.{Row}
+use Rattle.routes.specs.declared.Place.the-variants.{At}
+use Rattle.routes.specs.Place.{placeIn}
 use Rattle.clue.specs.Clue.{hopAround, extended}
 use Rattle.clue.specs.Entries.{mark, entryHops, entryMarks, entriesLent, allKeys, itsEntries}
+use Rattle.clue.proofs.Keys.{at-place}
+use Rattle.clue.proofs.Places.{at-in}
 use Rattle.clue.proofs.Truth.{decided, never-both, and-left, and-right, and-both}
 
 -- an entry is the list's for its clue
@@ -93,6 +97,13 @@ module _ (rows : List Row) (keys hops marks : List ℕ) (e : itsEntries rows (en
   pub its-marks-count : length marks ≡ length keys
   unfolding entryMarks
   its-marks-count = same-length marks (entryMarks rows keys) same-marks ∙ length-map keys (λ k. mark (extended rows k))
+
+  -- a key that is among them has its hop and its mark at its place
+  pub its-place : (k i : ℕ) → placeIn keys k ≡ At i → (i < length hops) × (i < length marks)
+  its-place k i p =
+      let at = at-in keys k i p in
+      let there = at-place k keys its-ascend (at .0) .0 in
+      (omega (arith, its-hops-count, at .1), omega (arith, its-marks-count, at .1))
 
 -- slices of two lengths are nobody's entries
 module _ (rows : List Row) (keys hops marks : List ℕ) where

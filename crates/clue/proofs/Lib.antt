@@ -9,4 +9,5 @@ pub mod Extension
 pub mod EntryTest
 pub mod Halfway
 pub mod QuickOutcomes
+pub mod HintOutcomes
 pub mod Final
