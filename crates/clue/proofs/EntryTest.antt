@@ -84,10 +84,10 @@ module _ (rows : List Row) (keys hops marks : List ℕ) (e : itsEntries rows (en
   pub its-ascend : ascends keys ≡ true
   its-ascend = and-right (allKeys keys) (ascends keys) front
 
-  same-hops : same hops (entryHops rows keys) ≡ true
+  pub same-hops : same hops (entryHops rows keys) ≡ true
   same-hops = and-left (same hops (entryHops rows keys)) _ back
 
-  same-marks : same marks (entryMarks rows keys) ≡ true
+  pub same-marks : same marks (entryMarks rows keys) ≡ true
   same-marks = and-right (same hops (entryHops rows keys)) _ back
 
   pub its-hops-count : length hops ≡ length keys

@@ -11,3 +11,7 @@ pub mod Halfway
 pub mod QuickOutcomes
 pub mod HintOutcomes
 pub mod Final
+pub mod Stored
+pub mod HintThenLookup
+pub mod QuickThenLookup
+pub mod LookupSettled
