@@ -5,9 +5,8 @@ use mathlib.Core.Path.{_≡_, refl, sym, ap, _∙_}
 use mathlib.Core.Logic.{_⊎_, inl, inr, ⊎-elim}
 use mathlib.Core.Bool.{Bool, true, false, _&&_}
 use mathlib.Core.List.{List, [], _∷_}
-use mathlib.Core.Option.{Option, none, some}
-use Prim.Native.Nat.{ℕ, suc, _+_, _-_, _≤_, _<_, zero-le}
-use native.Mathlib.Numerals.{add-one}
+use mathlib.Core.Option.{none, some}
+use Prim.Native.Nat.{ℕ, _+_, _-_, _≤_, _<_, zero-le}
 use native.Mathlib.Omega.{arith}
 use lib.ListN.{length, getD}
 use lib.Dec.{leb, ltb, eqb}
@@ -21,7 +20,7 @@ use Rattle.routes.specs.WellFormed.{wellFormed}
 use Rattle.routes.specs.declared.Place.the-variants.{At, Missing}
 use Rattle.routes.specs.Place.{placeIn}
 use Rattle.clue.specs.Clue.{clueOf, around, hopAround}
-use Rattle.clue.proofs.Truth.{decided, never-both, and-left, and-right, and-both, same-test, or-neither, cond-true, cond-false}
+use Rattle.clue.proofs.Truth.{decided, never-both, and-left, and-right, and-both, same-test, cond-true, cond-false}
 use Rattle.clue.proofs.Clue.{clue-length, clue-holds, covers-clue, holds-clue}
 use Rattle.clue.proofs.Keys.{Order, before, same, after, order, ascends-rest, lower-past, lower-none, in-past, in-none, at-place}
 use Rattle.clue.proofs.Places.{at-in, missing-out}

@@ -1,18 +1,18 @@
 -- What a clue is, as a key: its network is the address without its host bits, and a prefix holds the clue exactly if it isn't longer and
 -- holds the address. A longer prefix that holds the address extends the clue.
 -- Assumes nothing.
-use mathlib.Core.Path.{_≡_, refl, sym, ap, _∙_}
+use mathlib.Core.Path.{_≡_, refl}
 use mathlib.Core.Logic.{⊎-elim}
-use mathlib.Core.Bool.{true, false, _&&_}
+use mathlib.Core.Bool.{true, _&&_}
 use Prim.Native.Nat.{ℕ, _-_, _≤_, _<_}
 use native.Mathlib.Nat.{le-of-lt}
 use native.Mathlib.Omega.{arith}
 use lib.Dec.{leb, ltb, eqb}
-use borrow.Author.Tests.{leb-true, leb-false, ltb-true, eqb-true, le-leb, lt-leb, lt-ltb, eq-eqb}
-use Rattle.cidr.specs.Prefix.{addresses, keyOf, network, lengthOf, hostBits, isPrefix, holds, covers}
+use borrow.Author.Tests.{leb-true, ltb-true, eqb-true, le-leb, lt-ltb, eq-eqb}
+use Rattle.cidr.specs.Prefix.{addresses, network, lengthOf, hostBits, isPrefix, holds, covers}
 use Rattle.clue.specs.Clue.{clueOf, extends}
 use Rattle.clue.proofs.Truth.{decided, and-left, and-right, and-both}
-use Rattle.clue.proofs.Cut.{host-bits-le, cut-twice}
+use Rattle.clue.proofs.Cut.{cut-twice}
 
 -- the parts of a prefix
 pub record Prefix (key : ℕ) : Type 0 where

@@ -1,7 +1,7 @@
 -- An address without its host bits. What is cut to some bits and then to fewer is as if cut to the fewer at once; where no bit beyond a
 -- length is 1, none is beyond a greater one.
 -- Assumes nothing.
-use mathlib.Core.Path.{_≡_, sym, ap, _∙_}
+use mathlib.Core.Path.{_≡_, _∙_}
 use Prim.Native.Nat.{ℕ, _+_, _-_, _*_, _/_, _%_, _^_, _≤_, _<_}
 use native.Mathlib.Nat.{add-zero, mod-lt, mod-le, div-add-mod', div-mul-le-self, mod-eq-of-lt, lt-of-le-of-lt}
 use native.Mathlib.Omega.{arith}

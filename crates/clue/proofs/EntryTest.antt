@@ -22,7 +22,7 @@ use Rattle.clue.specs.Clue.{hopAround, extended}
 use Rattle.clue.specs.Entries.{mark, entryHops, entryMarks, entriesLent, allKeys, itsEntries}
 use Rattle.clue.proofs.Keys.{at-place}
 use Rattle.clue.proofs.Places.{at-in}
-use Rattle.clue.proofs.Truth.{decided, never-both, and-left, and-right, and-both}
+use Rattle.clue.proofs.Truth.{decided, never-both, and-left, and-right}
 
 -- an entry is the list's for its clue
 abbrev pub entryIs : List Row → ℕ → ℕ → ℕ → Bool

@@ -5,13 +5,12 @@ use mathlib.Core.Path.{_≡_, refl, sym, ap, _∙_}
 use mathlib.Core.Logic.{⊎-elim}
 use mathlib.Core.Bool.{Bool, true, false, _&&_, _||_}
 use mathlib.Core.List.{List, [], _∷_}
-use Prim.Native.Nat.{ℕ, suc, _+_, _-_, _%_, _≤_, _<_}
+use Prim.Native.Nat.{ℕ, suc, _+_, _-_, _≤_, _<_}
 use native.Mathlib.Nat.{le-of-lt, zero-add, mod-add-mod, mod-eq-of-lt}
-use native.Mathlib.Numerals.{add-one}
 use native.Mathlib.Omega.{arith}
 use lib.ListN.{length, getD}
-use lib.Dec.{leb, ltb, eqb, leb·suc-suc}
-use borrow.Author.Tests.{ltb-true, ltb-false, eqb-true, lt-ltb, le-ltb, le-leb, lt-leb, eq-eqb}
+use lib.Dec.{leb, ltb, leb·suc-suc}
+use borrow.Author.Tests.{ltb-true, ltb-false, eqb-true, lt-ltb, le-ltb, le-leb, eq-eqb}
 use Rattle.ground.specs.Column.{ascends, lower}
 use Rattle.cidr.specs.Prefix.{network, lengthOf, size, endOf, hostBits, isPrefix, holds, covers}
 use Rattle.routes.specs.Row.{Row, keysOf, every}
@@ -56,9 +55,13 @@ module _ (k key : ℕ) (p : Prefix k) (q : Prefix key) where
     longer : lengthOf k < lengthOf key
     longer = ⊎-elim
         (λ e. ltb-true (lengthOf k) (lengthOf key) e)
-        (λ e. absurd (omega (arith, cut, q .aligned,
-        host-bits-fall (lengthOf k) (lengthOf key) (network key) (ltb-false (lengthOf k) (lengthOf key) e),
-        ltb-false (lengthOf k) (lengthOf key) e)))
+        (λ e. absurd (omega (
+          arith,
+          cut,
+          q .aligned,
+          host-bits-fall (lengthOf k) (lengthOf key) (network key) (ltb-false (lengthOf k) (lengthOf key) e),
+          ltb-false (lengthOf k) (lengthOf key) e,
+        )))
         (decided (ltb (lengthOf k) (lengthOf key)))
 
     inside-extends : extends k key ≡ true
@@ -77,8 +80,10 @@ extended-is : (k : ℕ) → isPrefix k ≡ true → (rows : List Row) → prefix
 unfolding prefixes every extended any
 extended-is k p [] e = refl
 extended-is k p (r ∷ rs) e =
-    rw (extends-is k (r .key) (prefix-parts k p) (prefix-parts (r .key) (and-left (isPrefix (r .key)) (prefixes rs) e)),
-    extended-is k p rs (and-right (isPrefix (r .key)) (prefixes rs) e))
+    rw (
+      extends-is k (r .key) (prefix-parts k p) (prefix-parts (r .key) (and-left (isPrefix (r .key)) (prefixes rs) e)),
+      extended-is k p rs (and-right (isPrefix (r .key)) (prefixes rs) e),
+    )
 
 first-decides : (b rest : Bool) → (b ≡ false → rest ≡ false) → (b || rest) ≡ b
 first-decides true rest h = refl
@@ -112,8 +117,11 @@ module _ (k end : ℕ) where
       there : any (λ r. inside k end (r .key)) rs ≡ firstInside (keysOf rs) → ltb k (r .key) ≡ false
           → any (λ r. inside k end (r .key)) (r ∷ rs) ≡ firstInside (keysOf (r ∷ rs))
       there rec e =
-          rw (lower-past (suc k) (r .key) (keysOf rs) (omega (arith, ltb-false k (r .key) e)), e,
-          leb·suc-suc (suc (lower (suc k) (keysOf rs))) (length (keysOf rs)))
+          rw (
+            lower-past (suc k) (r .key) (keysOf rs) (omega (arith, ltb-false k (r .key) e)),
+            e,
+            leb·suc-suc (suc (lower (suc k) (keysOf rs))) (length (keysOf rs)),
+          )
           rec
 
 module _ (keys hops : List ℕ) (w : wellFormed (length keys) keys hops ≡ true) (k : ℕ) (p : isPrefix k ≡ true) where

@@ -1,17 +1,12 @@
 -- What a lookup with a hint gives, case by case: 15 for a length above 32, 11 for a list that isn't well-formed, 14 for entries that aren't
 -- the list's, and else the stored hop where the clue's entry is final, and the plain answer where it isn't.
 -- Assumes nothing.
-use mathlib.Core.Path.{_≡_, refl, sym, ap, _∙_}
-use mathlib.Core.Logic.{⊎-elim}
-use mathlib.Core.Bool.{Bool, true, false, not, cond, _&&_, and-false}
-use mathlib.Core.List.{List}
+use mathlib.Core.Path.{_≡_, _∙_}
+use mathlib.Core.Bool.{true, false, cond}
 use Prim.Native.Nat.{ℕ, _≤_, _<_}
-use native.Mathlib.Omega.{arith}
-use lib.ListN.{length, getD}
-use lib.Dec.{ltb, eqb}
+use lib.ListN.{getD}
 use borrow.Author.Tests.{lt-ltb, le-ltb, eq-eqb, ne-eqb}
 use Rattle.ground.specs.Numbers.{firstFault, outcome, done, illFormed}
-use Rattle.ground.specs.Column.{isIn, lower}
 use Rattle.routes.specs.Row.{ListLent, rowsLent}
 use Rattle.routes.specs.WellFormed.{wellFormed}
 use Rattle.routes.specs.Plain.{plain}

@@ -2,9 +2,9 @@
 -- was stored or searched for. It gives 15 for a length above 32, 11 for a list that isn't well-formed, and 14 exactly for entries that aren't
 -- the list's. So entries of another list are never taken for a wrong answer: they are refused, or they are this list's too.
 -- Assumes nothing.
-use mathlib.Core.Path.{_≡_, refl, sym, ap, _∙_}
+use mathlib.Core.Path.{_≡_, sym, ap, _∙_}
 use mathlib.Core.Logic.{_⊎_, inl, inr, ⊎-elim}
-use mathlib.Core.Bool.{Bool, true, false}
+use mathlib.Core.Bool.{true, false}
 use Prim.Native.Nat.{ℕ, _≤_, _<_}
 use native.Mathlib.Omega.{arith}
 use lib.Dec.{leb}
@@ -19,7 +19,7 @@ use Rattle.clue.specs.declared.Hinted.{Hinted}
 use Rattle.clue.specs.Clue.{clueOf}
 use Rattle.clue.specs.Entries.{EntriesLent, itsEntries}
 use Rattle.clue.specs.Build.{badLength}
-use Rattle.clue.specs.Lookup.{HintOutcome, hinted, hintGave, notItsEntries, isFinal, storedHop, hintLookup}
+use Rattle.clue.specs.Lookup.{HintOutcome, hintGave, notItsEntries, isFinal, hintLookup}
 use Rattle.clue.proofs.Truth.{decided}
 use Rattle.clue.proofs.HintOutcomes.{hint-long, hint-ill, hint-other, hint-final, hint-searched}
 use Rattle.clue.proofs.Stored.{final-stored}

@@ -3,10 +3,8 @@
 use mathlib.Core.Path.{_≡_, refl, sym, ap, _∙_}
 use mathlib.Core.Bool.{Bool, true, false, cond}
 use mathlib.Core.List.{List}
-use Prim.Native.Nat.{ℕ, _+_, _<_}
-use native.Mathlib.Omega.{arith}
-use lib.ListN.{length, getD}
-use Rattle.ground.specs.Column.{ascends, isIn, lower}
+use Prim.Native.Nat.{ℕ}
+use Rattle.ground.specs.Column.{isIn, lower}
 use Rattle.routes.specs.declared.Place.{Place}
 use Rattle.routes.specs.declared.Place.the-variants.{At, Missing}
 use Rattle.routes.specs.Place.{placeIn}

@@ -2,7 +2,7 @@
 -- isn't the list's for its clue, or whose key isn't below the next, settles that they aren't; one that is leaves it to those behind it.
 -- The measure is how many entries are left.
 -- Assumes nothing.
-use mathlib.Core.Path.{_≡_, sym, _∙_}
+use mathlib.Core.Path.{sym, _∙_}
 use Prim.Native.Nat.{_-_}
 use native.Mathlib.Omega.{arith}
 use lib.ListN.{length}
@@ -12,9 +12,6 @@ use Rattle.clue.proofs.Rows.{allRows}
 use Rattle.clue.proofs.EntryTest.{hops-differ, marks-differ, Walk, walk-start, walk-end, walk-fails, walk-stops, walk-last, walk-next}
 use Rattle.clue.proofs.entries_ok.Statement.{statement}
 use Rattle.clue.proofs.entries_ok.Tie as tie
-use Rattle.clue.proofs.entries_ok.Reads as reads
-use Rattle.clue.proofs.entries_ok.Lts as lts
-use Rattle.clue.proofs.entry.entry_ok.Reads as entry-ok-reads
 
 abbrev Inv-loop : tie.InvT-loop
 Inv-loop keys hops ekeys ehops marks n i₀ i = Walk (allRows keys hops) ekeys ehops marks i

@@ -1,16 +1,12 @@
 -- `clue::halve` meets its contract. The loop keeps `Halfway` true: from here on halving ends where it ends. The measure is how far low and
 -- high are apart.
 -- Assumes nothing.
-use mathlib.Core.Path.{_≡_, sym, ap, _∙_}
 use native.Mathlib.Omega.{arith}
-use lib.ListN.{length, getD}
+use lib.ListN.{getD}
 use borrow.Author.Needs.{needs}
 use Rattle.clue.proofs.Halfway.{Halfway, halfway-start, halfway-end, halfway-next, halfway-closer}
 use Rattle.clue.proofs.halve.Statement.{statement}
 use Rattle.clue.proofs.halve.Tie as tie
-use Rattle.clue.proofs.halve.Reads as reads
-use Rattle.clue.proofs.halve.Lts as lts
-use Rattle.halving.proofs.pick.Reads as pick-reads
 
 abbrev Inv-loop : tie.InvT-loop
 Inv-loop n ekeys k low₀ apart₀ low apart = Halfway (λ i. getD ekeys i 0) n k low apart

@@ -1,9 +1,8 @@
 -- `clue::quick` meets its contract: what stands at the place where halving ends says which outcome it is (`QuickOutcomes`).
 -- Assumes nothing.
-use mathlib.Core.Path.{_≡_, sym, ap, _∙_}
+use mathlib.Core.Path.{_≡_, sym, _∙_}
 use Prim.Native.Nat.{_<_}
 use native.Mathlib.Omega.{arith}
-use lib.ListN.{length}
 use denote.Ref.{now}
 use borrow.Author.Needs.{needs}
 use Rattle.clue.specs.Clue.{clueOf}
@@ -13,11 +12,6 @@ use Rattle.clue.specs.Quick.{quickPlace}
 use Rattle.clue.proofs.QuickOutcomes.{room-within, quick-empty, quick-long, quick-place, quick-other, quick-marked, quick-found}
 use Rattle.clue.proofs.quick.Statement.{statement}
 use Rattle.clue.proofs.quick.Tie as tie
-use Rattle.clue.proofs.quick.Reads as reads
-use Rattle.clue.proofs.quick.Lts as lts
-use Rattle.clue.proofs.entry.clue_key.Reads as clue-key-reads
-use Rattle.clue.proofs.halve.Reads as halve-reads
-use Rattle.clue.proofs.order.entry_room.Reads as entry-room-reads
 
 -- the function's start, where the room is known, and the entries
 abbrev at-start : tie.After-entry-room → tie.Start

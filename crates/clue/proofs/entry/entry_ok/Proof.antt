@@ -14,12 +14,6 @@ use Rattle.clue.proofs.EntryTest.{not-a-key, another-hop, mark-decides}
 use Rattle.clue.proofs.Clue.{prefix-parts, own-clue}
 use Rattle.clue.proofs.entry.entry_ok.Statement.{statement}
 use Rattle.clue.proofs.entry.entry_ok.Tie as tie
-use Rattle.clue.proofs.entry.entry_ok.Reads as reads
-use Rattle.clue.proofs.entry.entry_ok.Lts as lts
-use Rattle.cidr.proofs.is_prefix.Reads as is-prefix-reads
-use Rattle.cidr.proofs.network.Reads as network-reads
-use Rattle.clue.proofs.entry.extension.Reads as extension-reads
-use Rattle.clue.proofs.entry.hop_around.Reads as hop-around-reads
 
 is-prefix-requires : tie.Need-is-prefix-requires
 is-prefix-requires c κs = search needs

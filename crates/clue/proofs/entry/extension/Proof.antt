@@ -1,6 +1,6 @@
 -- `clue::entry::extension` meets its contract: the first key behind the clue tells whether some row extends it (`Extension`).
 -- Assumes nothing.
-use mathlib.Core.Path.{_≡_, sym, ap, _∙_}
+use mathlib.Core.Path.{_≡_, sym, _∙_}
 use mathlib.Core.Logic.{⊎-elim}
 use Prim.Native.Nat.{suc}
 use native.Mathlib.Omega.{arith}
@@ -12,11 +12,6 @@ use Rattle.clue.proofs.Rows.{keys-ascend}
 use Rattle.clue.proofs.Extension.{none-behind, first-extends, first-beyond, next-at, next-missing}
 use Rattle.clue.proofs.entry.extension.Statement.{statement}
 use Rattle.clue.proofs.entry.extension.Tie as tie
-use Rattle.clue.proofs.entry.extension.Reads as reads
-use Rattle.clue.proofs.entry.extension.Lts as lts
-use Rattle.cidr.proofs.end_of.Reads as end-of-reads
-use Rattle.cidr.proofs.network.Reads as network-reads
-use Rattle.routes.proofs.place_of.Reads as place-of-reads
 
 -- the function's start, where the key's place is known, and what it says
 abbrev at-start : tie.After-place-of → tie.Start

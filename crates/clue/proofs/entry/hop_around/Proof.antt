@@ -1,24 +1,17 @@
 -- `clue::entry::hop_around` meets its contract. The loop keeps true that the rows shorter than the lengths left to try have the say. The
 -- measure is how many lengths are left.
 -- Assumes nothing.
-use mathlib.Core.Path.{_≡_, sym, ap, _∙_}
-use mathlib.Core.Bool.{true}
-use Prim.Native.Nat.{_-_, _+_, _≤_, _<_}
+use mathlib.Core.Path.{_≡_, sym, _∙_}
+use Prim.Native.Nat.{_-_, _≤_, _<_}
 use native.Mathlib.Omega.{arith}
 use denote.Ref.{now}
 use borrow.Author.Needs.{needs}
 use lib.ListN.{length}
-use Rattle.cidr.specs.Prefix.{addresses}
-use Rattle.routes.specs.WellFormed.{wellFormed}
 use Rattle.clue.specs.Clue.{clueOf, hopAround}
 use Rattle.clue.proofs.Rows.{allRows, keys-ascend}
 use Rattle.clue.proofs.Around.{hopShorter, shorter-start, shorter-none, place-within, place-hop, place-missing}
 use Rattle.clue.proofs.entry.hop_around.Statement.{statement}
 use Rattle.clue.proofs.entry.hop_around.Tie as tie
-use Rattle.clue.proofs.entry.hop_around.Reads as reads
-use Rattle.clue.proofs.entry.hop_around.Lts as lts
-use Rattle.clue.proofs.entry.clue_key.Reads as clue-key-reads
-use Rattle.routes.proofs.place_of.Reads as place-of-reads
 
 abbrev Inv-loop : tie.InvT-loop
 Inv-loop keys hops a len left₀ left =
@@ -91,7 +84,7 @@ loop-again c =
     let inv = turn p .loop .inv in (
       omega arith,
       place-missing _ _ w _ _ _ (inv .0) (inv .1) (omega arith) _ (p .before .clue-key .ensures) _
-      (sym (p .place-of .ensures (keys-ascend _ _ w)) ∙ c .enum-told .given .1),
+          (sym (p .place-of .ensures (keys-ascend _ _ w)) ∙ c .enum-told .given .1),
     )
 
 returns-2 : tie.Need-returns-2 Inv-loop μ-loop
