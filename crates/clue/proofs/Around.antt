@@ -20,7 +20,8 @@ use Rattle.routes.specs.WellFormed.{wellFormed}
 use Rattle.routes.specs.declared.Place.the-variants.{At, Missing}
 use Rattle.routes.specs.Place.{placeIn}
 use Rattle.clue.specs.Clue.{clueOf, around, hopAround}
-use Rattle.clue.proofs.Truth.{decided, never-both, and-left, and-right, and-both, same-test, cond-true, cond-false}
+use Rattle.clue.proofs.Decided.{decided, never-both, and-left, and-right, and-both}
+use Rattle.clue.proofs.Truth.{same-test, cond-true, cond-false}
 use Rattle.clue.proofs.Clue.{clue-length, clue-holds, covers-clue, holds-clue}
 use Rattle.clue.proofs.Keys.{Order, before, same, after, order, ascends-rest, lower-past, lower-none, in-past, in-none, at-place}
 use Rattle.clue.proofs.Places.{at-in, missing-out}

@@ -11,8 +11,8 @@ use lib.Dec.{leb, ltb, eqb}
 use borrow.Author.Tests.{leb-true, ltb-true, eqb-true, le-leb, lt-ltb, eq-eqb}
 use Rattle.cidr.specs.Prefix.{addresses, network, lengthOf, hostBits, isPrefix, holds, covers}
 use Rattle.clue.specs.Clue.{clueOf, extends}
-use Rattle.clue.proofs.Truth.{decided, and-left, and-right, and-both}
-use Rattle.clue.proofs.Cut.{cut-twice}
+use Rattle.clue.proofs.Decided.{decided, and-left, and-right, and-both}
+use Rattle.clue.proofs.HostBits.{cut-twice}
 
 -- the parts of a prefix
 pub record Prefix (key : ℕ) : Type 0 where

@@ -1,52 +1,49 @@
--- An address without its host bits. What is cut to some bits and then to fewer is as if cut to the fewer at once; where no bit beyond a
--- length is 1, none is beyond a greater one.
+-- A list's slices cut to its count: they are the same list, and well-formed if it is.
 -- Assumes nothing.
-use mathlib.Core.Path.{_≡_, _∙_}
-use Prim.Native.Nat.{ℕ, _+_, _-_, _*_, _/_, _%_, _^_, _≤_, _<_}
-use native.Mathlib.Nat.{add-zero, mod-lt, mod-le, div-add-mod', div-mul-le-self, mod-eq-of-lt, lt-of-le-of-lt}
+use mathlib.Core.Path.{_≡_, refl, sym, ap}
+use mathlib.Core.Bool.{Bool, true, false}
+use mathlib.Core.List.{List, [], _∷_}
+use Prim.Native.Nat.{ℕ, zero, suc, _≤_}
 use native.Mathlib.Omega.{arith}
-use lib.Pow.{pow-pos, shl-shr, low, mod-pow-add}
-use Rattle.cidr.specs.Prefix.{size, hostBits}
+use lib.ListN.{length, take}
+use lib.Seq.{length-take-le}
+use lib.Dec.{leb}
+use borrow.Author.Tests.{leb-true, le-leb}
+use Rattle.routes.specs.Row.{row, rowsOf, listRoom}
+use Rattle.routes.specs.WellFormed.{goodRows, wellFormed, formed}
+use Rattle.clue.proofs.Decided.{and-left, and-right, and-both}
 
-pub size-pos : (len : ℕ) → 0 < size len
-unfolding size
-size-pos len = pow-pos (32 - len)
+cut-rows : (n : ℕ) (keys hops : List ℕ) → rowsOf n (take n keys) (take n hops) ≡ rowsOf n keys hops
+unfolding rowsOf
+cut-rows zero keys hops = refl
+cut-rows (suc n) [] hops = refl
+cut-rows (suc n) (k ∷ keys) [] = refl
+cut-rows (suc n) (k ∷ keys) (h ∷ hops) = ap (λ rows. row k h ∷ rows) (cut-rows n keys hops)
 
-pub host-bits-lt : (len a : ℕ) → hostBits len a < size len
-unfolding hostBits
-host-bits-lt len a = mod-lt a (size-pos len)
+-- the code's list test, for a list that is no half
+pub list-test : (b : Bool) (count : ℕ) (keys hops : List ℕ) → b ≡ formed false count keys hops → wellFormed count keys hops ≡ b
+unfolding formed
+list-test b count keys hops e = sym e
 
-pub host-bits-le : (len a : ℕ) → hostBits len a ≤ a
-unfolding hostBits
-host-bits-le len a = mod-le a (size len)
+module _ (count : ℕ) (keys hops : List ℕ) (well : wellFormed count keys hops ≡ true) where
+  in-room : count ≤ listRoom keys hops
+  unfolding wellFormed
+  in-room = leb-true count (listRoom keys hops) (and-left _ (goodRows (rowsOf count keys hops)) well)
 
--- an address shifted there and back has lost its host bits
-pub shifted : (a len : ℕ) → a < 2 ^ 64 → (a / 2 ^ (32 - len) * 2 ^ (32 - len)) % 2 ^ 64 ≡ a - hostBits len a
-unfolding hostBits size
-shifted a len h =
-    mod-eq-of-lt (lt-of-le-of-lt (div-mul-le-self a (2 ^ (32 - len))) h) ∙ omega (arith, div-add-mod' a (2 ^ (32 - len)))
+  pub cut-keys : count ≡ length (take count keys)
+  unfolding listRoom
+  cut-keys = sym (length-take-le count keys (omega (arith, in-room)))
 
-module _ (a j n : ℕ) where
-  high : a - a % 2 ^ n ≡ a / 2 ^ n * 2 ^ n
-  high = omega (arith, div-add-mod' a (2 ^ n))
+  pub cut-hops : count ≡ length (take count hops)
+  unfolding listRoom
+  cut-hops = sym (length-take-le count hops (omega (arith, in-room)))
 
-  -- with its last n bits cut off, a number has lost those and no other of its last j + n
-  high-mod : (a - a % 2 ^ n) % 2 ^ (j + n) ≡ (a / 2 ^ n % 2 ^ j) * 2 ^ n
-  high-mod =
-      rw high (mod-pow-add (a / 2 ^ n * 2 ^ n) j n
-      ∙ rw (shl-shr (a / 2 ^ n) n, rw add-zero at (low (a / 2 ^ n) n {lo = 0} (pow-pos n)), add-zero))
+  pub cut-list : rowsOf (length (take count keys)) (take count keys) (take count hops) ≡ rowsOf count keys hops
+  cut-list = rw (← cut-keys) (cut-rows count keys hops)
 
-  twice : (a - a % 2 ^ n) - (a - a % 2 ^ n) % 2 ^ (j + n) ≡ a - a % 2 ^ (j + n)
-  twice = omega (arith, high-mod, mod-pow-add a j n)
-
-module _ (len l a : ℕ) (le : l ≤ len) where
-  apart : 32 - l ≡ (32 - l) - (32 - len) + (32 - len)
-  apart = omega arith
-
-  pub cut-twice : (a - hostBits len a) - hostBits l (a - hostBits len a) ≡ a - hostBits l a
-  unfolding hostBits size
-  cut-twice = rw apart (twice a ((32 - l) - (32 - len)) (32 - len))
-
-  pub host-bits-fall : hostBits len a ≤ hostBits l a
-  unfolding hostBits size
-  host-bits-fall = rw apart (omega (arith, mod-pow-add a ((32 - l) - (32 - len)) (32 - len)))
+  pub cut-well : wellFormed (length (take count keys)) (take count keys) (take count hops) ≡ true
+  unfolding wellFormed listRoom
+  cut-well =
+      and-both
+      (le-leb (length (take count keys)) (listRoom (take count keys) (take count hops)) (omega (arith, in-room, cut-keys, cut-hops)))
+      (rw cut-list (and-right (leb count (listRoom keys hops)) (goodRows (rowsOf count keys hops)) well))

@@ -22,7 +22,7 @@ use Rattle.clue.specs.Clue.{hopAround, extended}
 use Rattle.clue.specs.Entries.{mark, entryHops, entryMarks, entriesLent, allKeys, itsEntries}
 use Rattle.clue.proofs.Keys.{at-place}
 use Rattle.clue.proofs.Places.{at-in}
-use Rattle.clue.proofs.Truth.{decided, never-both, and-left, and-right}
+use Rattle.clue.proofs.Decided.{decided, never-both, and-left, and-right}
 
 -- an entry is the list's for its clue
 abbrev pub entryIs : List Row → ℕ → ℕ → ℕ → Bool
@@ -108,10 +108,16 @@ module _ (rows : List Row) (keys hops marks : List ℕ) (e : itsEntries rows (en
 -- slices of two lengths are nobody's entries
 module _ (rows : List Row) (keys hops marks : List ℕ) where
   pub hops-differ : (length hops ≡ length keys → ⊥) → false ≡ itsEntries rows (entriesLent keys hops marks)
-  hops-differ n = ⊎-elim (λ e. absurd (n (its-hops-count rows keys hops marks e))) sym (decided (itsEntries rows (entriesLent keys hops marks)))
+  hops-differ n = ⊎-elim
+      (λ e. absurd (n (its-hops-count rows keys hops marks e)))
+      sym
+      (decided (itsEntries rows (entriesLent keys hops marks)))
 
   pub marks-differ : (length marks ≡ length keys → ⊥) → false ≡ itsEntries rows (entriesLent keys hops marks)
-  marks-differ n = ⊎-elim (λ e. absurd (n (its-marks-count rows keys hops marks e))) sym (decided (itsEntries rows (entriesLent keys hops marks)))
+  marks-differ n = ⊎-elim
+      (λ e. absurd (n (its-marks-count rows keys hops marks e)))
+      sym
+      (decided (itsEntries rows (entriesLent keys hops marks)))
 
 -- the walk over the entries: where it stands, all are the list's exactly if those from there on are
 pub itsFrom : List Row → List ℕ → List ℕ → List ℕ → ℕ → Bool

@@ -19,8 +19,9 @@ use Rattle.routes.specs.declared.Place.the-variants.{At, Missing}
 use Rattle.routes.specs.Place.{placeIn}
 use Rattle.clue.specs.Clue.{extends, any, extended}
 use Rattle.clue.specs.Entries.{mark}
-use Rattle.clue.proofs.Truth.{decided, and-left, and-right, and-both, same-test}
-use Rattle.clue.proofs.Cut.{host-bits-lt, host-bits-le, host-bits-fall}
+use Rattle.clue.proofs.Decided.{decided, and-left, and-right, and-both}
+use Rattle.clue.proofs.Truth.{same-test}
+use Rattle.clue.proofs.HostBits.{host-bits-lt, host-bits-le, host-bits-fall}
 use Rattle.clue.proofs.Clue.{Prefix, prefix-parts}
 use Rattle.clue.proofs.Keys.{ascends-rest, ascends-next, lower-nil, lower-past, lower-none, at-place, behind-at, behind-missing}
 use Rattle.clue.proofs.Places.{at-in, missing-out}

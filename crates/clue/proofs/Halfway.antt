@@ -13,7 +13,7 @@ use lib.Dec.{leb, ltb}
 use borrow.Author.Tests.{ltb-true, ltb-false, leb-true, leb-false, le-leb, lt-leb}
 use Rattle.ground.specs.Column.{ascends}
 use Rattle.halving.specs.Halving.{halves, halving}
-use Rattle.clue.proofs.Truth.{decided}
+use Rattle.clue.proofs.Decided.{decided}
 use Rattle.clue.proofs.Keys.{Order, order, ascends-at}
 
 module _ (at : ℕ → ℕ) (k : ℕ) where

@@ -20,12 +20,13 @@ use Rattle.clue.specs.Clue.{clueOf}
 use Rattle.clue.specs.Entries.{EntriesLent, itsEntries}
 use Rattle.clue.specs.Build.{badLength}
 use Rattle.clue.specs.Lookup.{HintOutcome, hintGave, notItsEntries, isFinal, hintLookup}
-use Rattle.clue.proofs.Truth.{decided}
+use Rattle.clue.proofs.Decided.{decided}
 use Rattle.clue.proofs.HintOutcomes.{hint-long, hint-ill, hint-other, hint-final, hint-searched}
 use Rattle.clue.proofs.Stored.{final-stored}
 
 -- Rule 2.13: plain lookup in a well-formed list.
-plain-accepted : (l : ListLent) (a : ℕ) → wellFormed (l .count) (l .keys) (l .hops) ≡ true → plainLookup l a ≡ lookedUp done (plain (rowsLent l) a)
+plain-accepted : (l : ListLent) (a : ℕ) → wellFormed (l .count) (l .keys) (l .hops) ≡ true
+    → plainLookup l a ≡ lookedUp done (plain (rowsLent l) a)
 unfolding plainLookup lookupChecks firstFault outcome
 plain-accepted l a e = rw e
 

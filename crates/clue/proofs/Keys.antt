@@ -13,7 +13,7 @@ use lib.Arith.{lt-of-le-ne}
 use borrow.Author.Tests.{ltb-true, ltb-false, eqb-true, eqb-false, lt-ltb, le-ltb, eq-eqb, ne-eqb}
 use Rattle.ground.specs.Column.{below, ascends, isIn, lower}
 use Rattle.ground.specs.Stretch.{among}
-use Rattle.clue.proofs.Truth.{decided, never-both, and-left, and-right}
+use Rattle.clue.proofs.Decided.{decided, never-both, and-left, and-right}
 
 -- where a key stands to another
 pub data Order (k x : ℕ) : Type 0 where

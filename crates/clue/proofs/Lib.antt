@@ -1,17 +1,19 @@
-pub mod Truth
-pub mod Cut
-pub mod Clue
-pub mod Keys
-pub mod Places
-pub mod Rows
-pub mod Around
-pub mod Extension
-pub mod EntryTest
-pub mod Halfway
-pub mod QuickOutcomes
-pub mod HintOutcomes
+mod Decided
+mod Truth
+mod HostBits
+mod Clue
+mod Keys
+mod Places
+mod Rows
+mod Cut
+mod Around
+mod Extension
+mod EntryTest
+mod Halfway
+mod HintOutcomes
+mod QuickOutcomes
 pub mod Final
-pub mod Stored
+mod Stored
 pub mod HintThenLookup
 pub mod QuickThenLookup
 pub mod LookupSettled

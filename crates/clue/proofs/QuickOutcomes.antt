@@ -12,7 +12,8 @@ use Rattle.clue.specs.Clue.{clueOf}
 use Rattle.clue.specs.Entries.{EntriesLent}
 use Rattle.clue.specs.Build.{entryRoom}
 use Rattle.clue.specs.Quick.{said, quickPlace, quickFinal, quickLookup}
-use Rattle.clue.proofs.Truth.{cond-true, cond-false, and-both}
+use Rattle.clue.proofs.Decided.{and-both}
+use Rattle.clue.proofs.Truth.{cond-true, cond-false}
 
 module _ (e : EntriesLent) where
   pub room-within : (entryRoom e ≤ length (e .keys)) × (entryRoom e ≤ length (e .hops)) × (entryRoom e ≤ length (e .marks))

@@ -22,7 +22,8 @@ use Rattle.clue.specs.Entries.{EntriesLent, itsEntries}
 use Rattle.clue.specs.Build.{entryRoom}
 use Rattle.clue.specs.Lookup.{HintOutcome, hintGave, isFinal, storedHop, hintLookup}
 use Rattle.clue.specs.Quick.{QuickOutcome, said, quickGave, quickPlace, quickFinal, quickLookup}
-use Rattle.clue.proofs.Truth.{decided, never-both, and-left, and-right, and-both, same-test}
+use Rattle.clue.proofs.Decided.{decided, never-both, and-left, and-right, and-both}
+use Rattle.clue.proofs.Truth.{same-test}
 use Rattle.clue.proofs.Keys.{placed-in, at-place}
 use Rattle.clue.proofs.Halfway.{halving-below, halving-finds}
 use Rattle.clue.proofs.EntryTest.{its-ascend, its-hops-count, its-marks-count}

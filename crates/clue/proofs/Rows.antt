@@ -3,16 +3,16 @@
 use mathlib.Core.Path.{_≡_, refl, ap, _∙_}
 use mathlib.Core.Bool.{true}
 use mathlib.Core.List.{List, [], _∷_}
-use Prim.Native.Nat.{ℕ, zero, suc, _≤_, _<_, min}
+use Prim.Native.Nat.{ℕ, zero, suc, _≤_, _<_}
 use native.Mathlib.Omega.{arith}
 use lib.ListN.{length, getD, take}
-use lib.Seq.{take-length, length-take-le, getD-take}
+use lib.Seq.{take-length, getD-take}
 use lib.Dec.{leb}
-use borrow.Author.Tests.{leb-true, le-leb}
+use borrow.Author.Tests.{leb-true}
 use Rattle.ground.specs.Column.{ascends}
-use Rattle.routes.specs.Row.{Row, row, rowsOf, keysOf, hopsOf, topRoom, listRoom}
+use Rattle.routes.specs.Row.{Row, rowsOf, keysOf, hopsOf, listRoom}
 use Rattle.routes.specs.WellFormed.{prefixes, hopsGiven, ascending, halfRows, goodRows, wellFormed}
-use Rattle.clue.proofs.Truth.{and-left, and-right, and-both}
+use Rattle.clue.proofs.Decided.{and-left, and-right}
 
 pub keys-of-rows : (n : ℕ) (keys hops : List ℕ) → n ≤ length keys → n ≤ length hops → keysOf (rowsOf n keys hops) ≡ take n keys
 unfolding rowsOf
@@ -66,33 +66,3 @@ module _ (keys hops : List ℕ) (w : wellFormed (length keys) keys hops ≡ true
 
   pub keys-ascend : ascends keys ≡ true
   keys-ascend = rw keys-are at (well-ascends (length keys) keys hops w)
-
--- the rows of the first slots of two slices are those that a count says
-rows-taken : (n : ℕ) (keys hops : List ℕ) → rowsOf n (take n keys) (take n hops) ≡ rowsOf n keys hops
-unfolding rowsOf
-rows-taken zero keys hops = refl
-rows-taken (suc n) [] hops = refl
-rows-taken (suc n) (k ∷ keys) [] = refl
-rows-taken (suc n) (k ∷ keys) (h ∷ hops) = ap (row k h ∷_) (rows-taken n keys hops)
-
-module _ (n : ℕ) (keys hops : List ℕ) (w : wellFormed n keys hops ≡ true) where
-  pub count-within : (n ≤ length keys) × (n ≤ length hops) × (n ≤ topRoom)
-  unfolding listRoom
-  count-within = let r = well-room n keys hops w in (omega arith, omega arith, omega arith)
-
-  taken : length (take n keys) ≡ n
-  taken = length-take-le n keys (count-within .0)
-
-  taken-hops : length (take n hops) ≡ n
-  taken-hops = length-take-le n hops (count-within .1)
-
-  pub taken-rows : allRows (take n keys) (take n hops) ≡ rowsOf n keys hops
-  taken-rows = rw taken (rows-taken n keys hops)
-
-  pub taken-well : wellFormed (length (take n keys)) (take n keys) (take n hops) ≡ true
-  unfolding wellFormed listRoom
-  taken-well =
-      and-both
-      (le-leb (length (take n keys)) (min (min (length (take n keys)) (length (take n hops))) topRoom)
-      (omega (arith, taken, taken-hops, count-within)))
-      (ap goodRows taken-rows ∙ good n keys hops w)

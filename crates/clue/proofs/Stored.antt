@@ -16,7 +16,7 @@ use Rattle.routes.specs.Plain.{plain}
 use Rattle.clue.specs.Clue.{clueOf, hopAround, extended}
 use Rattle.clue.specs.Entries.{mark, EntriesLent, entryHops, entryMarks, itsEntries}
 use Rattle.clue.specs.Lookup.{isFinal, storedHop}
-use Rattle.clue.proofs.Truth.{never-both, and-left, and-right}
+use Rattle.clue.proofs.Decided.{never-both, and-left, and-right}
 use Rattle.clue.proofs.Keys.{at-place}
 use Rattle.clue.proofs.EntryTest.{its-ascend, same-hops, same-marks}
 use Rattle.clue.proofs.Final.{final-is-plain}
@@ -44,7 +44,8 @@ module _ (rows : List Row) (e : EntriesLent) (its : itsEntries rows e ≡ true) 
     unfolding entryMarks
     mark-of = same-at (λ k. mark (extended rows k)) (e .marks) (e .keys) (same-marks rows (e .keys) (e .hops) (e .marks) its) i l
 
-    pub stored-plain : (len a : ℕ) → len ≤ 32 → getD (e .keys) i 0 ≡ clueOf len a → getD (e .marks) i 0 ≡ 0 → getD (e .hops) i 0 ≡ plain rows a
+    pub stored-plain : (len a : ℕ) → len ≤ 32 → getD (e .keys) i 0 ≡ clueOf len a → getD (e .marks) i 0 ≡ 0
+        → getD (e .hops) i 0 ≡ plain rows a
     stored-plain len a short k m =
         let none = not-marked (extended rows (getD (e .keys) i 0)) (sym mark-of ∙ m) in
         hop-of ∙ rw k (final-is-plain len a short rows (rw k at none))

@@ -7,18 +7,18 @@ use mathlib.Core.Bool.{true, false}
 use Prim.Native.Nat.{_<_}
 use native.Mathlib.Omega.{arith}
 use lib.ListN.{length}
-use lib.Seq.{length-take-le}
 use denote.Ref.{now}
 use borrow.Author.Needs.{needs}
 use borrow.Author.Tests.{not-true, not-false}
 use Rattle.ground.specs.Numbers.{done}
 use Rattle.routes.specs.Row.{ListLent, listLent, rowsLent}
-use Rattle.routes.specs.WellFormed.{wellFormed, formed}
+use Rattle.routes.specs.WellFormed.{wellFormed}
 use Rattle.routes.specs.Place.{placeIn}
 use Rattle.clue.specs.Clue.{clueOf, hopAround}
 use Rattle.clue.specs.Entries.{EntriesLent, entriesLent, itsEntries}
 use Rattle.clue.specs.Lookup.{hinted, isFinal}
-use Rattle.clue.proofs.Rows.{well-prefixes, count-within, taken-rows, taken-well}
+use Rattle.clue.proofs.Cut.{list-test, cut-keys, cut-hops, cut-list, cut-well}
+use Rattle.clue.proofs.Rows.{well-prefixes}
 use Rattle.clue.proofs.EntryTest.{its-ascend, its-place}
 use Rattle.clue.proofs.Final.{search-is-plain}
 use Rattle.clue.proofs.HintOutcomes.{hint-long, hint-ill, hint-other, hint-final, hint-searched, final-at, marked-at, stored-at, none-at}
@@ -46,15 +46,14 @@ list-ok-requires c κs = search needs
 -- whether the list is well-formed
 listed : (c : tie.After-list-ok)
     → let s = at-start (c .before) in
-    c .list-ok .result ≡ wellFormed (s .args .count) (now (s .args .keys)) (now (s .args .hops))
-unfolding formed
-listed c = c .list-ok .ensures
+    wellFormed (s .args .count) (now (s .args .keys)) (now (s .args .hops)) ≡ c .list-ok .result
+listed c = list-test _ _ _ _ (c .list-ok .ensures)
 
 returns-2 : tie.Need-returns-2
 returns-2 c =
     let ok = c .before in
     let s = at-start (ok .before) in
-    sym (hint-ill (lent s) (entries s) (s .args .len) (s .args .a) (ok .before .if1 .left) (sym (listed ok) ∙ not-true _ (c .if2 .taken)))
+    sym (hint-ill (lent s) (entries s) (s .args .len) (s .args .a) (ok .before .if1 .left) (listed ok ∙ not-true _ (c .if2 .taken)))
 
 -- the start of what follows, where it is
 abbrev list-start : tie.Else2 → tie.Start
@@ -63,16 +62,16 @@ list-start c = at-start (c .before .before)
 well : (c : tie.Else2)
     → let s = list-start c in
     wellFormed (s .args .count) (now (s .args .keys)) (now (s .args .hops)) ≡ true
-well c = sym (listed (c .before)) ∙ not-false _ (c .if2 .left)
+well c = listed (c .before) ∙ not-false _ (c .if2 .left)
 
 slice-aggregate-rkeys : tie.Need-slice-aggregate-rkeys
-slice-aggregate-rkeys c = sym (length-take-le _ _ (count-within _ _ _ (well (c .before)) .0))
+slice-aggregate-rkeys c = cut-keys _ _ _ (well (c .before))
 
 slice-aggregate-rhops : tie.Need-slice-aggregate-rhops
-slice-aggregate-rhops c = sym (length-take-le _ _ (count-within _ _ _ (well (c .before .before)) .1))
+slice-aggregate-rhops c = cut-hops _ _ _ (well (c .before .before))
 
 entries-ok-requires : tie.Need-entries-ok-requires
-entries-ok-requires c κs = taken-well _ _ _ (well (c .before .before))
+entries-ok-requires c κs = cut-well _ _ _ (well (c .before .before))
 
 -- whether the entries are the list's
 abbrev at-list : tie.After-entries-ok → tie.Else2
@@ -81,7 +80,7 @@ at-list c = c .before .before .before
 theirs : (c : tie.After-entries-ok)
     → let s = list-start (at-list c) in
     c .entries-ok .result ≡ itsEntries (rowsLent (lent s)) (entries s)
-theirs c = c .entries-ok .ensures ∙ ap (λ rows. itsEntries rows (entries (list-start (at-list c)))) (taken-rows _ _ _ (well (at-list c)))
+theirs c = c .entries-ok .ensures ∙ ap (λ rows. itsEntries rows (entries (list-start (at-list c)))) (cut-list _ _ _ (well (at-list c)))
 
 returns-3 : tie.Need-returns-3
 returns-3 c =
@@ -151,7 +150,7 @@ enum-told : tie.Need-enum-told
 enum-told c = search needs
 
 hop-around-requires : tie.Need-hop-around-requires
-hop-around-requires c κs = (taken-well _ _ _ (well (at-place (c .before))), (omega arith, search needs))
+hop-around-requires c κs = (cut-well _ _ _ (well (at-place (c .before))), (omega arith, search needs))
 
 -- no entry is final
 not-final : (c : tie.At-match-came)
@@ -175,7 +174,7 @@ returns-5 c =
     let s = list-start l in
     let a = s .args .a in
     let found =
-    c .hop-around .ensures ∙ ap (λ rows. hopAround rows (clueOf 32 a)) (taken-rows _ _ _ (well l))
+    c .hop-around .ensures ∙ ap (λ rows. hopAround rows (clueOf 32 a)) (cut-list _ _ _ (well l))
     ∙ search-is-plain (rowsLent (lent s)) (well-prefixes _ _ _ (well l)) a in
     ap (λ h. hinted done h false) found
     ∙ sym (hint-searched (lent s) (entries s) (s .args .len) a (l .before .before .if1 .left) (well l) (its p) (not-final m))
