@@ -189,10 +189,11 @@ pub fn quick(ekeys: &[u64], ehops: &[u16], marks: &[u8], len: u32, a: u32) -> To
     if n == 0 {
         return Told::Search;
     }
-    if 32 < len {
+    let bits = len as u64;
+    if 32 < bits {
         return Told::Search;
     }
-    let key = entry::clue_key(len as u64, a as u64);
+    let key = entry::clue_key(bits, a as u64);
     let low = halve(n, ekeys, key);
     if ekeys[low] != key {
         return Told::Search;
