@@ -1,0 +1,19 @@
+mod Decided
+mod Truth
+mod HostBits
+mod Clue
+mod Keys
+mod Places
+mod Rows
+mod Cut
+mod Around
+mod Extension
+mod EntryTest
+mod Halfway
+mod HintOutcomes
+mod QuickOutcomes
+pub mod Final
+mod Stored
+pub mod HintThenLookup
+pub mod QuickThenLookup
+pub mod LookupSettled

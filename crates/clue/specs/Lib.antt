@@ -1,0 +1,5 @@
+pub mod Clue
+pub mod Entries
+pub mod Build
+pub mod Lookup
+pub mod Quick
