@@ -1,0 +1,6 @@
+mod Decided
+pub mod KeyOrder
+mod Least
+mod Clues
+mod Searching
+mod Along
