@@ -4,3 +4,4 @@ mod Least
 mod Clues
 mod Searching
 mod Along
+mod Writing
