@@ -5,3 +5,5 @@ mod Clues
 mod Searching
 mod Along
 mod Writing
+mod Cut
+mod BuildOutcomes
