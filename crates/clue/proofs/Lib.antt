@@ -7,3 +7,5 @@ mod Along
 mod Writing
 mod Cut
 mod BuildOutcomes
+pub mod BuildSettled
+pub mod BuiltEntries
