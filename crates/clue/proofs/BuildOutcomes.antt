@@ -1,6 +1,6 @@
 -- What a build of entries returns and leaves, check by check: 15, 11, 13, and else the entries at the front of the slices.
 -- Assumes nothing.
-use mathlib.Core.Path.{_≡_, sym}
+use mathlib.Core.Path.{_≡_}
 use mathlib.Core.Bool.{true, false}
 use mathlib.Core.List.{List}
 use Prim.Native.Nat.{ℕ, _≤_, _<_}

@@ -1,15 +1,15 @@
 -- A list's slices cut to its count: they are the same list, and well-formed if it is.
 -- Assumes nothing.
-use mathlib.Core.Path.{_≡_, refl, sym, ap, _∙_}
-use mathlib.Core.Bool.{Bool, true, false, _&&_}
+use mathlib.Core.Path.{_≡_, refl, sym, ap}
+use mathlib.Core.Bool.{Bool, true, false}
 use mathlib.Core.List.{List, [], _∷_}
-use Prim.Native.Nat.{ℕ, zero, suc, _≤_, min}
+use Prim.Native.Nat.{ℕ, zero, suc, _≤_}
 use native.Mathlib.Omega.{arith}
 use lib.ListN.{length, take}
 use lib.Seq.{length-take-le}
 use lib.Dec.{leb}
 use borrow.Author.Tests.{leb-true, le-leb}
-use Rattle.routes.specs.Row.{Row, row, rowsOf, listRoom}
+use Rattle.routes.specs.Row.{row, rowsOf, listRoom}
 use Rattle.routes.specs.WellFormed.{goodRows, wellFormed, formed}
 use Rattle.clue.proofs.Decided.{and-left, and-right, and-both}
 
