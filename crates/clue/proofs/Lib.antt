@@ -10,6 +10,7 @@ mod Around
 mod Extension
 mod EntryTest
 mod Halfway
+mod Turning
 mod HintOutcomes
 mod QuickOutcomes
 pub mod Final
@@ -17,3 +18,12 @@ mod Stored
 pub mod HintThenLookup
 pub mod QuickThenLookup
 pub mod LookupSettled
+pub mod KeyOrder
+mod Least
+mod Clues
+mod Searching
+mod Along
+mod Writing
+mod BuildOutcomes
+pub mod BuildSettled
+pub mod BuiltEntries

@@ -3,3 +3,4 @@ pub mod Entries
 pub mod Build
 pub mod Lookup
 pub mod Quick
+pub mod Inside

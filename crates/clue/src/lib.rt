@@ -84,7 +84,7 @@ pub fn build(
     if !order::fits(lengths, addresses, ordered, room) {
         return Entered::NoRoom;
     }
-    Entered::Entries(order::write(
+    let n = order::write(
         &keys[..count],
         &hops[..count],
         lengths,
@@ -93,7 +93,8 @@ pub fn build(
         ekeys,
         ehops,
         marks,
-    ))
+    );
+    Entered::Entries(n)
 }
 
 // Rule 19.5: whether entries are the list's for their clues.
