@@ -15,6 +15,7 @@ ghost use Rattle.clue.specs.Entries.{entriesLent, itsEntries};
 ghost use Rattle.clue.specs.Build.{tooLong, entriesGave, buildEntries};
 ghost use Rattle.clue.specs.Lookup.{hintGave, hintLookup};
 ghost use Rattle.clue.specs.Quick.{quickGave, quickLookup};
+use halving::Bracket;
 use routes::Place;
 
 // What a build of entries gives: how many there are, 15, 11, or 13.
@@ -163,21 +164,25 @@ pub fn lookup(
     Hinted::Searched(entry::hop_around(rkeys, rhops, a as u64, 32))
 }
 
-// Rule 7.3: the place where halving over the first n keys ends.
+// Rule 7.3: the place where halving over the first n keys ends. How many probes it made isn't asked.
 fn halve(n: usize, ekeys: &[u64], k: u64) -> usize
     requires { ⌜ (0 < n) × (n ≤ length (now ekeys)) ⌝ }
     ensures { λ r. ⌜ (r ≡ halving (λ i. getD (now (ekeys .entry)) i 0) n k .low) × (r < n) ⌝ }
 {
-    let mut low = 0;
-    let mut apart = n;
-    while 1 < apart {
-        let half = apart / 2;
-        let middle = low + half;
-        let above = k < ekeys[middle];
-        low = halving::pick(above, low, middle);
-        apart = halving::pick(above, half, apart - half);
+    let turns = halving::turns(n);
+    let mut s = Bracket {
+        place: n / 2,
+        apart: n,
+    };
+    let mut made = 0;
+    while made < turns {
+        let place = s.place;
+        s = halving::narrow(s, k < ekeys[place]);
+        made += 1;
     }
-    low
+    let place = s.place;
+    let found = halving::end(s, 0, k < ekeys[place]);
+    found.low
 }
 
 // Rule 19.7: what entries say of a clue, by halving, whatever they are: a final hop, or that a search has to follow.
