@@ -1,6 +1,6 @@
 /* Whelkhollow's hints for C, for a router whose neighbour sends the length of its own best match along with each packet. A product of its own beside
-   whelkhollow.h, whose numbers and rules for callers hold here too: any values may be handed in, a refused call writes nothing, and a pointer isn't null.
-   Link target/staticlib/libclue_host.a, which `rt staticlib clue_host` builds. docs/RULES.md has all rules, in section 19.
+   whelkhollow.h, whose rules for callers hold here too: any values may be handed in, a refused call writes nothing, and a pointer isn't null. Link
+   target/staticlib/libclue_host.a, which `rt staticlib clue_host` builds, and libhost.a for run lookup. docs/RULES.md has all rules, in section 19.
 
    A clue is a length from 0 to 32 and an address, read as that many first bits of the address: a prefix. For a list and a clue an entry says which hop
    the longest listed prefix has that holds the clue's, and whether a longer listed prefix extends the clue. If none does, that hop is final for every
@@ -8,7 +8,8 @@
    the list's own.
 
    A host builds entries once for the clues that its neighbour can send (the prefixes of the neighbour's list, say), and again after each edit of its
-   list. For each packet it asks whelk_clue_quick, and where that says search it looks the address up in the run table:
+   list. Entries, list and run table go together: whoever swaps one under running lookups swaps all three. For each packet the host asks
+   whelk_clue_quick, and where that says search it looks the address up in the run table:
 
        uint32_t told = whelk_clue_quick(keys, n, hops, n, marks, n, length, address);
        hop = whelk_clue_is_final(told) ? whelk_clue_hop(told) : whelk_lookup_hop(whelk_run_lookup_slices(..));
@@ -42,7 +43,21 @@ extern "C" {
 #define WHELK_CAST(type, value) ((type)(value))
 #endif
 
-/* What a build of entries returns: its number, and how many entries there are. */
+/* A number of these calls in words, for a log. They have the numbers of whelkhollow.h, but 14 and 15 are about clues here. Any number may be handed in;
+   the text is constant. */
+static inline const char *whelk_clue_number_text(size_t number)
+{
+    switch (number) {
+    case WHELK_DONE: return "done";
+    case WHELK_ILL_FORMED: return "the list is ill-formed";
+    case WHELK_NO_ROOM: return "there are more entries than slots for them";
+    case WHELK_NOT_ITS_RUNS: return "the entries are others than the list's for their clues";
+    case WHELK_BAD_EDIT: return "a clue's length is above 32";
+    default: return "a number that no call returns";
+    }
+}
+
+/* What a build of entries returns: its number, and how many entries there are. Look at the number first: on a refusal the count is 0. */
 struct whelk_entries {
     size_t number;
     size_t count;
@@ -69,7 +84,7 @@ struct whelk_entries whelk_clue_build(size_t count, const uint64_t *keys, size_t
    Lend the list, and its entries: all of entry_keys, entry_hops and marks are entries.
    Returns a number, a hop and whether the hop was stored, for the three functions below. The number is 0, 15 if the length is above 32, 11 if the list is
    ill-formed, or 14 if the entries are others than the list's for their clues, as after an edit, or have other lengths. With number 0 the hop is
-   always the list's own for the address, also if the clue has no entry. (It is 4,294,967,296 x stored + 65,536 x number + hop.)
+   always the list's own for the address, also if the clue has no entry, and hop 0 says that nothing matches. (It is 4,294,967,296 x stored + 65,536 x number + hop.)
    Leaves all memory as it is. */
 uint64_t whelk_clue_lookup(size_t count, const uint64_t *keys, size_t keys_length, const uint16_t *hops, size_t hops_length,
                            const uint64_t *entry_keys, size_t entry_keys_length, const uint16_t *entry_hops, size_t entry_hops_length,
@@ -96,8 +111,9 @@ static inline int whelk_clue_lookup_stored(uint64_t found)
    nothing but where the slices end.
    Lend the entries as a build left them: the lengths are how many there are, and the shortest counts.
    Returns what the two functions below take apart. A search follows where the clue has no entry, where a longer listed prefix extends it, where there are
-   no entries, and where the length is above 32. In entries that a build left, a final hop is the list's own for the address; in others it is what
-   stands there. (It is 65,536 + hop, or 0 for a search.)
+   no entries, and where the length is above 32. In entries that a build left, a final hop is the list's own for the address, and hop 0 says that
+   nothing matches; in others it is what stands there. After an edit of the list and before a new build it may be the old list's hop, which nothing
+   here can tell. (It is 65,536 + hop, or 0 for a search.)
    Leaves all memory as it is. */
 uint32_t whelk_clue_quick(const uint64_t *entry_keys, size_t entry_keys_length, const uint16_t *entry_hops, size_t entry_hops_length,
                           const uint8_t *marks, size_t marks_length, uint32_t length, uint32_t address)

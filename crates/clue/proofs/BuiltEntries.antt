@@ -58,18 +58,18 @@ module _ (l : ListLent) (lengths addrs : List ℕ) (e : EntriesLent) {n : ℕ} {
   short : tooLong lengths addrs ≡ false
   short = ⊎-elim (λ t. absurd (omega (arith, ap number-is (b ∙ sym (build-long l lengths addrs e t))))) (λ t. t) (decided _)
 
-  well : wellFormed (l .count) (l .keys) (l .hops) ≡ true
-  well = ⊎-elim (λ t. t) (λ t. absurd (omega (arith, ap number-is (b ∙ sym (build-ill l lengths addrs e short t))))) (decided _)
+  pub built-well : wellFormed (l .count) (l .keys) (l .hops) ≡ true
+  built-well = ⊎-elim (λ t. t) (λ t. absurd (omega (arith, ap number-is (b ∙ sym (build-ill l lengths addrs e short t))))) (decided _)
 
   roomy : length (inKeyOrder (clues lengths addrs)) ≤ entryRoom e
   roomy = ⊎-elim
-      (λ t. absurd (omega (arith, ap number-is (b ∙ sym (build-full l lengths addrs e short well (ltb-true _ _ t))))))
+      (λ t. absurd (omega (arith, ap number-is (b ∙ sym (build-full l lengths addrs e short built-well (ltb-true _ _ t))))))
       (λ t. ltb-false _ _ t)
       (decided (ltb (entryRoom e) (length (inKeyOrder (clues lengths addrs)))))
 
   left : made done n (entriesLent ekeys ehops marks)
       ≡ made done (length (inKeyOrder (clues lengths addrs))) (entriesIn (rowsLent l) (inKeyOrder (clues lengths addrs)) e)
-  left = b ∙ sym (build-done l lengths addrs e short well (rowsLent l) roomy refl refl refl)
+  left = b ∙ sym (build-done l lengths addrs e short built-well (rowsLent l) roomy refl refl refl)
 
   many : n ≡ length (inKeyOrder (clues lengths addrs))
   many = ap (λ (o : EntriesOutcome). o .count) left

@@ -1,6 +1,6 @@
 -- Rules 19.5 and 19.6, from the contracts alone: where a lookup with a hint gives 0, plain lookup gives 0 and the same hop, whether the hop
--- was stored or searched for. It gives 15 for a length above 32, 11 for a list that isn't well-formed, and 14 exactly for entries that aren't
--- the list's. So entries of another list are never taken for a wrong answer: they are refused, or they are this list's too.
+-- was stored or searched for. It gives 15 for a length above 32; else 11 for a list that isn't well-formed; else 14 for entries that aren't
+-- the list's; and else 0. So entries of another list are never taken for a wrong answer: they are refused, or they are this list's too.
 -- Assumes nothing.
 use mathlib.Core.Path.{_≡_, sym, ap, _∙_}
 use mathlib.Core.Logic.{_⊎_, inl, inr, ⊎-elim}
@@ -25,7 +25,7 @@ use Rattle.clue.proofs.HintOutcomes.{hint-long, hint-ill, hint-other, h
 use Rattle.clue.proofs.Stored.{final-stored}
 
 -- Rule 2.13: plain lookup in a well-formed list.
-plain-accepted : (l : ListLent) (a : ℕ) → wellFormed (l .count) (l .keys) (l .hops) ≡ true
+pub plain-accepted : (l : ListLent) (a : ℕ) → wellFormed (l .count) (l .keys) (l .hops) ≡ true
     → plainLookup l a ≡ lookedUp done (plain (rowsLent l) a)
 unfolding plainLookup lookupChecks firstFault outcome
 plain-accepted l a e = rw e

@@ -27,3 +27,5 @@ mod Writing
 mod BuildOutcomes
 pub mod BuildSettled
 pub mod BuiltEntries
+pub mod BuildThenHint
+pub mod Refusals
