@@ -29,3 +29,4 @@ pub mod BuildSettled
 pub mod BuiltEntries
 pub mod BuildThenHint
 pub mod Refusals
+pub mod Corners
