@@ -32,12 +32,12 @@ module _ (rows : List Row) (key hop marked : ℕ) where
   pub not-a-key : isPrefix key ≡ false → false ≡ entryIs rows key hop marked
   not-a-key e = rw e
 
-  module _ (e : isPrefix key ≡ true) where
-    pub another-hop : (hop ≡ hopAround rows key → ⊥) → false ≡ entryIs rows key hop marked
-    another-hop n = rw (e, ne-eqb hop (hopAround rows key) n)
+  module _ (e : isPrefix key ≡ true) {found : ℕ} (is : found ≡ hopAround rows key) where
+    pub another-hop : (hop ≡ found → ⊥) → false ≡ entryIs rows key hop marked
+    another-hop n = rw (e, ne-eqb hop (hopAround rows key) (λ q. n (q ∙ sym is)))
 
-    pub mark-decides : hop ≡ hopAround rows key → eqb marked (mark (extended rows key)) ≡ entryIs rows key hop marked
-    mark-decides h = rw (e, eq-eqb hop (hopAround rows key) h)
+    pub mark-decides : hop ≡ found → {told : ℕ} → told ≡ mark (extended rows key) → eqb marked told ≡ entryIs rows key hop marked
+    mark-decides h t = rw (e, eq-eqb hop (hopAround rows key) (h ∙ is), t)
 
 regroup : (p b h m ps bs hs ms : Bool)
     → (((p && ps) && (b && bs)) && ((h && hs) && (m && ms))) ≡ ((p && (h && m)) && (b && ((ps && bs) && (hs && ms))))

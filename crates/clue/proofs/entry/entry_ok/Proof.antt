@@ -4,7 +4,6 @@ use mathlib.Core.Path.{_≡_, sym, ap, _∙_}
 use mathlib.Core.Bool.{true}
 use native.Mathlib.Omega.{arith}
 use denote.Ref.{now}
-use lib.Dec.{eqb}
 use borrow.Author.Needs.{needs}
 use borrow.Author.Tests.{not-true, not-false}
 use Rattle.cidr.specs.Prefix.{lengthOf, isPrefix}
@@ -51,7 +50,7 @@ found c =
 returns-2 : tie.Need-returns-2
 returns-2 c =
     let h = c .before in
-    another-hop _ _ _ _ (is-prefix (h .before .before)) (λ e. c .if2 .taken (e ∙ sym (found h)))
+    another-hop _ _ _ _ (is-prefix (h .before .before)) (found h) (c .if2 .taken)
 
 extension-requires : tie.Need-extension-requires
 extension-requires c κs =
@@ -61,9 +60,7 @@ extension-requires c κs =
 returns-3 : tie.Need-returns-3
 returns-3 c =
     let h = c .before .before in
-    let args = at-start (h .before .before) .args in
-    ap (eqb (args .marked)) (c .extension .ensures)
-    ∙ mark-decides _ _ _ _ (is-prefix (h .before .before)) (c .before .if2 .left ∙ found h)
+    mark-decides _ _ _ _ (is-prefix (h .before .before)) (found h) (c .before .if2 .left) (c .extension .ensures)
 
 pub entry-ok-spec : {M : Type 1} → statement M
 entry-ok-spec =
