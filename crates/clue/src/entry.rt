@@ -1,5 +1,5 @@
-// One clue against a list's rows: its key, the hop of the longest listed match of the clue itself, and whether a longer listed prefix extends
-// it. Each is found by halving, through `routes::place_of`.
+// One clue against a list's rows: its key, the hop of the longest listed match of the clue itself, and whether a longer listed prefix
+// extends it. Each is found by halving, through `routes::place_of`.
 ghost use mathlib.Core.Path.{_≡_};
 ghost use mathlib.Core.Bool.{true, _&&_};
 ghost use Prim.Native.Nat.{_≤_, _<_};
@@ -21,8 +21,8 @@ pub fn clue_key(len: u64, a: u64) -> u64
     ((a >> bits) << bits) * 64 + len
 }
 
-// Rule 19.2: the hop of the longest listed match of a clue itself, or 0. For each length from the clue's down the key is looked for: at most
-// 33 searches.
+// Rule 19.2: the hop of the longest listed match of a clue itself, or 0. For each length from the clue's down the key is looked for: at
+// most 33 searches.
 pub fn hop_around(keys: &[u64], hops: &[u16], a: u64, len: u64) -> u16
     requires { ⌜ wellFormed (length (now keys)) (now keys) (now hops) ≡ true ⌝ }
     requires { ⌜ (len ≤ 32) × (a < addresses) ⌝ }

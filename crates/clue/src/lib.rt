@@ -1,5 +1,5 @@
 // Hints from a neighbour, for a router that is told the length of its neighbour's best match with each address: entries for such clues,
-// built from a list, and lookups that are final where no longer listed prefix extends the clue. It stands on what prefixes, the list and the
+// built from a list, and lookups that are final where no longer listed prefix extends the clue. It stands on what prefixes, the list and
 // lookups by halving promise, and cites no law of the crates below.
 mod entry;
 mod order;

@@ -1,5 +1,5 @@
-// The C interface of the hints: entries built, looked up with a clue, and asked quickly, over memory that the host lends, each with one number
-// or one plain struct back. It is a product of its own beside `host`; include/whelkhollow_clue.h declares what is exported here.
+// The C interface of the hints: entries built, looked up with a clue, and asked quickly, over memory that the host lends, each with one
+// number or one plain struct back. It is a product of its own beside `host`; include/whelkhollow_clue.h declares what is exported here.
 ghost use Rattle.clue_host.specs.Exports.{hostEntriesGave, hintForC, quickForC};
 ghost use mathlib.Core.Path.{_≡_};
 ghost use mathlib.Core.List.{[]};
@@ -70,8 +70,8 @@ pub extern "C" fn whelk_clue_build(
     entered_for_c(clue::build(count, keys, hops, lengths, addresses, ekeys, ehops, marks))
 }
 
-// In the one number that C gets of a lookup, its number stands above the hop, and above both whether the hop was stored. What the quick form
-// says stands above its hop.
+// In the one number that C gets of a lookup, its number stands above the hop, and above both whether the hop was stored. What the quick
+// form says stands above its hop.
 pub const NUMBER_UNIT: u64 = 65536;
 
 pub const HIGH_UNIT: u64 = 4294967296;
