@@ -1,5 +1,5 @@
 /* Hints: a router that is told the length of its neighbour's best match asks its entries, and searches its run table where they aren't final.
-   Neighbours with one list, and with lists that differ in 300 rows. Seven of eight addresses go to a listed prefix, as packets do. First beside the
+   Neighbours with one list, and with lists that differ in about 300 rows. Seven of eight addresses go to a listed prefix, as packets do. First beside the
    same in C, and then, in the rows "over lookup", our hints beside our run lookup alone. */
 #include "in_c.h"
 #include "measure.h"
@@ -71,6 +71,7 @@ static void forward(const char *lists)
     struct whelk_entries built = whelk_clue_build(rows, keys, rows, hops, rows, lengths, clues, networks, clues, entry_keys, clues, entry_hops, clues,
                                                   marks, clues);
     size_t i, finals = 0;
+    if (built.number != WHELK_DONE) exit(1);
     entries = built.count;
     for (i = 0; i < LOOKUPS; i++) {
         size_t row = any() % clues;

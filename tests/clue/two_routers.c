@@ -2,8 +2,8 @@
    second asks its entries first: where they say that a hop is final it is done, and else it searches its own run table. Its entries were built for
    the prefixes of the first one's list, which come in key order as a list's own do.
    How long the first one's best match is it finds by a second run table, of its list with each hop replaced by the row's length + 1.
-   Counted over a million addresses: first both routers have one list, then lists that differ in 300 rows. Each hop is held to the second
-   router's run table; the program says how many differed, and that is none. */
+   Counted over a million addresses: first both routers have one list, then lists of which 100 rows are only in the one, 100 only in the other and 100
+   have another hop. Each final hop is held to the second router's run table; the program says how many differed, and that is none. */
 #include <stdio.h>
 #include <stdlib.h>
 #include <string.h>
@@ -74,7 +74,10 @@ static void change_list(struct router *r)
         uint64_t k = whelk_key(any() >> 8 << 8, 24);
         size_t at = 0;
         while (at < r->count && r->keys[at] < k) at++;
-        if (at < r->count && r->keys[at] == k) continue;
+        if (at < r->count && r->keys[at] == k) {
+            i--;
+            continue;
+        }
         memmove(r->keys + at + 1, r->keys + at, (r->count - at) * sizeof *r->keys);
         memmove(r->hops + at + 1, r->hops + at, (r->count - at) * sizeof *r->hops);
         r->keys[at] = k;
@@ -106,6 +109,7 @@ static uint16_t entry_hops[ROWS + 1];
 static void forward(const char *lists)
 {
     unsigned long finals = 0, searched = 0, wrong = 0;
+    state = 20261120; /* the same addresses for both pairs of lists */
     struct whelk_entries built = whelk_clue_build(second.count, second.keys, second.count, second.hops, second.count, lengths, first.count, addresses,
                                                   first.count, entry_keys, first.count, entry_hops, first.count, marks, first.count);
     if (built.number != WHELK_DONE) exit(2);
@@ -115,13 +119,14 @@ static void forward(const char *lists)
             size_t row = 1 + any() % (first.count - 1);
             address = addresses[row] | address >> lengths[row];
         }
+        if (search(&first, address) == 0) continue; /* the first router has no hop for it, and hands nothing on */
         uint16_t best = search(&lengths_of_first, address);
         uint32_t length = best ? best - 1u : 0; /* what goes along with the packet; nothing matched is sent as 0 */
         uint32_t told = whelk_clue_quick(entry_keys, built.count, entry_hops, built.count, marks, built.count, length, address);
         uint16_t hop = whelk_clue_is_final(told) ? whelk_clue_hop(told) : search(&second, address);
         finals += (unsigned long)whelk_clue_is_final(told);
         searched += !whelk_clue_is_final(told);
-        wrong += hop != search(&second, address);
+        wrong += whelk_clue_is_final(told) && hop != search(&second, address);
     }
     printf("%s: %zu and %zu rows, %zu entries; of %d addresses %lu were final and %lu searched, %lu wrong\n", lists, first.count, second.count,
            built.count, ADDRESSES, finals, searched, wrong);

@@ -17,7 +17,7 @@ use Rattle.routes.specs.Plain.{matching, longer, longest, plain}
 use Rattle.halving.specs.Halving.{halves, halving}
 use Rattle.clue.specs.Clue.{clueOf, around, hopAround, extends, any, extended}
 use Rattle.clue.specs.Entries.{clues, entered, inKeyOrder, mark, entryHops, entryMarks, EntriesLent, entriesLent, allKeys, itsEntries}
-use Rattle.clue.specs.Build.{tooLong, entryRoom, entriesIn, entriesChecks, buildEntries}
+use Rattle.clue.specs.Build.{tooLong, entryRoom, EntriesOutcome, made, entriesIn, entriesChecks, buildEntries}
 use Rattle.clue.specs.Lookup.{isFinal, storedHop, hintChecks, hintLookup}
 use Rattle.clue.specs.Quick.{quickPlace, quickFinal, quickLookup}
 
@@ -60,11 +60,30 @@ pub counted-lengths : (tooLong (8 ∷ 33 ∷ []) (1 ∷ []) ≡ false) × (tooLo
 unfolding tooLong
 counted-lengths = (refl, refl, refl)
 
+-- two clues that are equal, 10.0.0.0/8, with two slots for entries, with one and with none
+abbrev twice : EntriesLent → EntriesOutcome
+twice e = buildEntries lent (8 ∷ 8 ∷ []) (dotted 10 0 0 1 ∷ dotted 10 9 9 9 ∷ []) e
+
+abbrev ill : ListLent
+ill = listLent 1 (0 ∷ []) (0 ∷ [])
+
+-- Rules 19.3 and 19.4: one entry, and the slot behind it stays; just enough room; then 13 and the slices as they were; 15 before 11 before 13.
+pub of-builds : (twice (entriesLent (5 ∷ 6 ∷ []) (7 ∷ 8 ∷ []) (9 ∷ 4 ∷ []))
+    ≡ made 0 1 (entriesLent (keyOf (dotted 10 0 0 0) 8 ∷ 6 ∷ []) (7 ∷ 8 ∷ []) (1 ∷ 4 ∷ [])))
+    × (twice (entriesLent (5 ∷ []) (2 ∷ []) (9 ∷ [])) .number ≡ 0)
+    × (twice (entriesLent (5 ∷ []) [] (9 ∷ [])) ≡ made 13 0 (entriesLent (5 ∷ []) [] (9 ∷ [])))
+    × (buildEntries ill (33 ∷ []) (0 ∷ []) (entriesLent [] [] []) .number ≡ 15)
+    × (buildEntries ill (32 ∷ []) (0 ∷ []) (entriesLent [] [] []) .number ≡ 11)
+    × (buildEntries lent [] (0 ∷ []) (entriesLent [] [] []) ≡ made 0 0 (entriesLent [] [] []))
+unfolding buildEntries outcome firstFault entriesChecks entriesIn entryRoom tooLong inKeyOrder entered clues written entryHops entryMarks wellFormed goodRows hopsGiven halfRows prefixes ascending ascends listRoom every rowsOf isPrefix clueOf hopAround extended mark any extends around those longest longer covers holds hostBits size
+of-builds = (refl, refl, refl, refl, refl, refl)
+
 -- entries for the clues 0.0.0.0/0, 10.0.0.0/8 and 10.64.0.0/10
 abbrev entries : EntriesLent
 entries = entriesLent (0 ∷ keyOf (dotted 10 0 0 0) 8 ∷ keyOf (dotted 10 64 0 0) 10 ∷ []) (1 ∷ 7 ∷ 9 ∷ []) (1 ∷ 1 ∷ 0 ∷ [])
 
--- Rules 19.5 and 19.6: final, extended, and no entry; then 15, 14 for a mark, for a hop, for unequal lengths.
+-- Rules 19.5 and 19.6: final, extended, and no entry; then 15, and 14 for a mark, for a hop, for unequal lengths, for equal keys and for a
+-- host bit; 11 before 14; and no entries at all.
 pub of-lookups : (hintLookup lent entries 10 (dotted 10 64 0 1) .hop ≡ 9)
     × (hintLookup lent entries 10 (dotted 10 64 0 1) .final ≡ true)
     × (hintLookup lent entries 8 (dotted 10 0 0 1) .hop ≡ 7)
@@ -74,9 +93,12 @@ pub of-lookups : (hintLookup lent entries 10 (dotted 10 64 0 1) .hop ≡ 9)
     × (hintLookup lent (entriesLent (0 ∷ []) (1 ∷ []) (2 ∷ [])) 0 0 .number ≡ 14)
     × (hintLookup lent (entriesLent (0 ∷ []) (7 ∷ []) (1 ∷ [])) 0 0 .number ≡ 14)
     × (hintLookup lent (entriesLent (0 ∷ []) (1 ∷ []) []) 0 0 .number ≡ 14)
+    × (hintLookup lent (entriesLent (0 ∷ 0 ∷ []) (1 ∷ 1 ∷ []) (1 ∷ 1 ∷ [])) 0 0 .number ≡ 14)
+    × (hintLookup lent (entriesLent (keyOf (dotted 10 0 0 1) 8 ∷ []) (7 ∷ []) (1 ∷ [])) 0 0 .number ≡ 14)
+    × (hintLookup ill (entriesLent (0 ∷ []) (9 ∷ []) (9 ∷ [])) 0 0 .number ≡ 11)
     × (hintLookup lent (entriesLent [] [] []) 5 0 .hop ≡ 1)
 unfolding hintLookup outcome firstFault hintChecks isFinal storedHop itsEntries allKeys ascends same entryHops entryMarks isIn lower among wellFormed goodRows hopsGiven halfRows prefixes ascending listRoom every rowsOf isPrefix plain matching clueOf hopAround extended mark any extends around those longest longer covers holds hostBits size
-of-lookups = (refl, refl, refl, refl, refl, refl, refl, refl, refl, refl)
+of-lookups = (refl, refl, refl, refl, refl, refl, refl, refl, refl, refl, refl, refl, refl)
 
 -- Rule 19.7: the quick form says the same of these, and of no entries, of a length above 32 and of slices that end earlier that a search follows.
 pub of-quick : (quickLookup entries 10 (dotted 10 64 0 1) .hop ≡ 9)
