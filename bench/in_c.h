@@ -44,4 +44,7 @@ size_t c_pair_check(size_t count, const uint64_t *keys, size_t keys_length, cons
                     const uint32_t *starts, size_t starts_length, const uint16_t *run_hops, size_t run_hops_length);
 announcing c_edit_agreed;
 
+uint32_t c_clue_quick(const uint64_t *keys, size_t keys_length, const uint16_t *hops, size_t hops_length, const uint8_t *marks,
+                      size_t marks_length, uint32_t length, uint32_t address);
+
 #endif
