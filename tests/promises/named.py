@@ -14,7 +14,7 @@ NAMED = set(re.findall(r"`([^`]+)`", TEXT))
 # `law` or `law`, `law` and `law`, and then (crate, `File`) or | crate, `File`, `File` |
 GIVEN = re.compile(r"((?:`[\w-]+`(?:, | and |,\n))*`[\w-]+`)\s(?:\(|\| )(\w+), ((?:`[\w.]+`(?:, )?)+)(?:\)| \|)")
 
-INSIDE = {"ground", "halving", "sweep", "within"}
+INSIDE = {"ground", "halving", "sweep", "within", "c_answers"}
 PROGRAMS = {"figures", "whelk", "print"}
 
 passed = failed = 0

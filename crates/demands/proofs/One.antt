@@ -52,8 +52,8 @@ use Rattle.edit.specs.declared.Edit.{Edit}
 use Rattle.edit.specs.Edit.{Edited, editRefused, editGave, announce, announceChecks, withdraw, withdrawChecks}
 use Rattle.split.specs.declared.Parted.{Parted}
 use Rattle.split.specs.Split.{SplitLent, SplitOutcome, splitInto, splitGave, split, splitChecks}
-use Rattle.host.specs.Exports.{lookupForC, HeldForC, heldGaveC, heldForC, heldChecks}
-use Rattle.host.specs.Exports.{runLookupForC, probedGaveC, probedForC}
+use Rattle.c_answers.specs.Exports.{lookupForC, runLookupForC, probedGaveC, probedForC}
+use Rattle.host.specs.Exports.{HeldForC, heldGaveC, heldForC, heldChecks}
 use Rattle.demands.proofs.Orders.{InOrder, orders}
 use Rattle.demands.proofs.First.{First, first-of}
 

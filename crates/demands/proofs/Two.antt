@@ -48,7 +48,7 @@ use Rattle.text.specs.Text.{writeGave, write}
 use Rattle.text.proofs.WriteThenImport.{ReadBackIn, write-then-import}
 use Rattle.feed.specs.declared.Imported.{Imported}
 use Rattle.feed.specs.Import.{ImportLent, importGave, import}
-use Rattle.host.specs.Exports.{addressBytes}
+use Rattle.c_answers.specs.Exports.{addressBytes}
 
 -- an accepted plain lookup gives the hop of the longest listed prefix that holds the address, or 0 where none does
 module _ (l : ListLent) (a : ℕ) (r : Looked) (e : lookupGave r ≡ plainLookup l a) (d : lookupGave r .number ≡ done) where

@@ -31,9 +31,9 @@ use Rattle.runs.specs.Lookup.{RunLookupOutcome, runLookup, runChecks}
 use Rattle.runs.proofs.Lookups.{run-lookup-plain}
 use Rattle.runs.proofs.HoldsUntil.{HoldsUntil, holds-until}
 use Rattle.edit.proofs.EditKeepsPair.{same-count}
-use Rattle.host.specs.declared.WhelkCounts.{WhelkCounts}
-use Rattle.host.specs.Exports.{hostImportGave, countsIn, BuildForC, buildGaveC, builtForC, buildForC}
-use Rattle.host.specs.Exports.{runLookupForC, ProbedForC, probedGaveC, probedForC}
+use Rattle.c_answers.specs.declared.WhelkCounts.{WhelkCounts}
+use Rattle.c_answers.specs.Exports.{hostImportGave, countsIn, BuildForC, buildGaveC, builtForC, buildForC}
+use Rattle.c_answers.specs.Exports.{runLookupForC, ProbedForC, probedGaveC, probedForC}
 use Rattle.demands.proofs.Orders.{orders}
 use Rattle.demands.proofs.First.{First, first-of}
 

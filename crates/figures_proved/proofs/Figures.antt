@@ -32,7 +32,8 @@ use Rattle.why.specs.Text.{whyTextOf, whyTextChecks, whyText}
 use Rattle.edit.specs.Edit.{badPrefix, announceChecks, announce, withdrawChecks, withdraw}
 use Rattle.runs.specs.Bytes.{runBytes, startAt, hopAt}
 use Rattle.runs.specs.Lookup.{lastOf, inSlices, runChecks, runLookup, inBytes, bytesChecks, bytesLookup}
-use Rattle.host.specs.Exports.{lookupForC, runLookupForC, probedForC, heldChecks, heldForC}
+use Rattle.c_answers.specs.Exports.{lookupForC, runLookupForC, probedForC}
+use Rattle.host.specs.Exports.{heldChecks, heldForC}
 use Rattle.segment.specs.Packed.{width, blockHop, bit, wordFrom, wordsFor, codeWords, wordsOf, basesFrom, basesOf, keptHops, packedHopsOf}
 use Rattle.segment.specs.Lookup.{blockOf, onesTo, pastPlace, packedChecks, packedLookup}
 use Rattle.split.specs.Split.{covering, relabelled, firstHalf, secondHalf, splitChecks, split}

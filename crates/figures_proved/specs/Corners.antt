@@ -27,7 +27,8 @@ use Rattle.runs.specs.Pair.{Pair, pair}
 use Rattle.runs.specs.Bytes.{runBytes}
 use Rattle.edit.specs.Edit.{announce, withdraw}
 use Rattle.runs.specs.Lookup.{runLookup, bytesLookup}
-use Rattle.host.specs.Exports.{lookupForC, runLookupForC, probedForC, heldForC}
+use Rattle.c_answers.specs.Exports.{lookupForC, runLookupForC, probedForC}
+use Rattle.host.specs.Exports.{heldForC}
 use Rattle.segment.specs.Packed.{width, wordsOf, basesOf, packedHopsOf}
 use Rattle.segment.specs.Lookup.{segmentLent, packedLookup}
 use Rattle.split.specs.Split.{secondHalf, splitLent, SplitOutcome, split}

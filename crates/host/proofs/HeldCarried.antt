@@ -4,11 +4,11 @@
 use mathlib.Core.Path.{_≡_, refl, sym, ap, _∙_}
 use mathlib.Core.Logic.{⊎-elim}
 use mathlib.Core.Bool.{Bool, false, not, _||_}
-use mathlib.Core.List.{List, [], _∷_}
+use mathlib.Core.List.{List, []}
 use Prim.Native.Nat.{ℕ, _%_, _≤_, _<_}
 use native.Mathlib.Nat.{zero-add}
 use native.Mathlib.Omega.{arith}
-use lib.ListN.{length, set}
+use lib.ListN.{length}
 use lib.Dec.{eqb, ltb}
 use borrow.Author.Tests.{lt-ltb, le-ltb}
 use Rattle.ground.specs.Numbers.{firstFault, done}
@@ -20,17 +20,8 @@ use Rattle.runs.specs.declared.Held.{Held}
 use Rattle.runs.specs.declared.Held.the-variants as H
 use Rattle.runs.specs.Lookup.{BytesLookupOutcome, held, bytesLookupGave, bytesChecks, bytesLookup}
 use Rattle.runs.proofs.LookupOutcomes.{bytes-looked-up}
-use Rattle.host.specs.Exports.{lookupForC, addressBytes, heldChecks, heldGaveC, heldForC}
-
--- four numbers stored at the front
-pub four-written : (out : List ℕ) (w x y z : ℕ) → 4 ≤ length out
-    → set (set (set (set out 0 w) 1 x) 2 y) 3 z ≡ written (w ∷ x ∷ y ∷ z ∷ []) out
-unfolding written
-four-written [] w x y z l = absurd (omega arith)
-four-written (a ∷ []) w x y z l = absurd (omega arith)
-four-written (a ∷ b ∷ []) w x y z l = absurd (omega arith)
-four-written (a ∷ b ∷ c ∷ []) w x y z l = absurd (omega arith)
-four-written (a ∷ b ∷ c ∷ d ∷ rest) w x y z l = refl
+use Rattle.c_answers.specs.Exports.{lookupForC, addressBytes}
+use Rattle.host.specs.Exports.{heldChecks, heldGaveC, heldForC}
 
 -- whether the bytes are ill-formed
 abbrev ill : List ℕ → Bool

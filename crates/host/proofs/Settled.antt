@@ -10,20 +10,20 @@ use Rattle.feed.specs.Import.{ImportLent, import}
 use Rattle.feed.specs.Pull.{pull}
 use Rattle.segment.specs.Pack.{PackOutcome}
 use Rattle.edit.specs.Edit.{Edited}
-use Rattle.host.specs.declared.WhelkCounts.{WhelkCounts}
-use Rattle.host.specs.declared.WhelkPacked.{WhelkPacked}
-use Rattle.host.specs.declared.edits.WhelkEdit.{WhelkEdit}
-use Rattle.host.specs.declared.reasons.WhelkReason.{WhelkReason}
-use Rattle.host.specs.declared.rows.WhelkRow.{WhelkRow}
-use Rattle.host.specs.Exports.{pullForC, HostTallyGave, ProbedForC, probedGaveC, HeldForC, heldGaveC, WhyForC, whyGaveC}
-use Rattle.host.specs.Exports.{hostImportGave, hostPackGave, hostEditGave, BuildForC, buildGaveC, WriteForC, writeGaveC, SplitForC, splitGaveC}
-use Rattle.host.proofs.ImportCarried.{toC}
+use Rattle.c_answers.specs.declared.WhelkCounts.{WhelkCounts}
+use Rattle.c_answers.specs.declared.WhelkPacked.{WhelkPacked}
+use Rattle.c_answers.specs.declared.edits.WhelkEdit.{WhelkEdit}
+use Rattle.c_answers.specs.declared.reasons.WhelkReason.{WhelkReason}
+use Rattle.c_answers.specs.declared.rows.WhelkRow.{WhelkRow}
+use Rattle.c_answers.specs.Exports.{pullForC, ProbedForC, probedGaveC, WhyForC, whyGaveC, countsForC, hostImportGave, hostPackGave, hostEditGave}
+use Rattle.c_answers.specs.Exports.{BuildForC, buildGaveC, WriteForC, writeGaveC, SplitForC, splitGaveC}
+use Rattle.host.specs.Exports.{HostTallyGave, HeldForC, heldGaveC}
 
 -- what C gets from an import and the three slices at exit can be told from what they say
 module _ {w w′ : WhelkCounts} {k k′ h h′ p p′ : List ℕ} where
   host-gave-one : hostImportGave w k h p ≡ hostImportGave w′ k′ h′ p′ → (w ≡ w′) × (k ≡ k′) × (h ≡ h′) × (p ≡ p′)
   host-gave-one e =
-      (ap (λ o. toC (o .number) (o .counts)) e, ap (λ o. o .keys) e, ap (λ o. o .hops) e, ap (λ o. o .report) e)
+      (ap (λ o. countsForC (o .number) (o .counts)) e, ap (λ o. o .keys) e, ap (λ o. o .hops) e, ap (λ o. o .report) e)
 
   pub host-import-settled : (feed : List ℕ) (l : ImportLent)
       → hostImportGave w k h p ≡ import feed l → hostImportGave w′ k′ h′ p′ ≡ import feed l

@@ -2,19 +2,8 @@
 ghost use mathlib.Core.Path.{_≡_};
 ghost use Rattle.routes.specs.Row.{listLent};
 ghost use Rattle.runs.specs.Table.{runsLent};
-ghost use Rattle.runs.specs.Pair.{pair, pairGave, pairCheck};
-use runs::Paired;
-
-// The number of a pair check's answer.
-fn pair_for_c(r: Paired) -> usize
-    ensures { λ n. ⌜ n ≡ pairGave r ⌝ }
-{
-    match r {
-        Paired::Agreed => ground::DONE as usize,
-        Paired::IllFormed => ground::ILL_FORMED as usize,
-        Paired::NotItsRuns => ground::NOT_ITS_RUNS as usize,
-    }
-}
+ghost use Rattle.runs.specs.Pair.{pair, pairCheck};
+use c_answers::pair_for_c;
 
 // Rule 8.4: the pair check of a list and a run table.
 #[no_mangle]

@@ -1,6 +1,6 @@
 -- `host::whelk_build` meets its contract: the build's outcome with its number and count in one.
 -- Assumes nothing.
-use Rattle.host.proofs.Carried.{build-carried}
+use Rattle.c_answers.proofs.Carried.{build-carried}
 use borrow.Author.Needs.{needs}
 use Rattle.host.proofs.whelk_build.Statement.{statement}
 use Rattle.host.proofs.whelk_build.Tie as tie

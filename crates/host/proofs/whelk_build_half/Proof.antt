@@ -1,6 +1,6 @@
 -- `host::whelk_build_half` meets its contract: the half's build with its number and count in one.
 -- Assumes nothing.
-use Rattle.host.proofs.Carried.{build-carried}
+use Rattle.c_answers.proofs.Carried.{build-carried}
 use borrow.Author.Needs.{needs}
 use Rattle.host.proofs.whelk_build_half.Statement.{statement}
 use Rattle.host.proofs.whelk_build_half.Tie as tie

@@ -1,7 +1,7 @@
 -- `host::whelk_plain_lookup` meets its contract: the plain lookup's outcome as one number.
 -- Assumes nothing.
 use mathlib.Core.Path.{ap, _∙_}
-use Rattle.host.specs.Exports.{lookupForC}
+use Rattle.c_answers.specs.Exports.{lookupForC}
 use borrow.Author.Needs.{needs}
 use Rattle.host.proofs.whelk_plain_lookup.Statement.{statement}
 use Rattle.host.proofs.whelk_plain_lookup.Tie as tie

@@ -1,6 +1,6 @@
 -- `host::whelk_split` meets its contract: the split's outcome with its number and count in one.
 -- Assumes nothing.
-use Rattle.host.proofs.Carried.{split-carried}
+use Rattle.c_answers.proofs.Carried.{split-carried}
 use borrow.Author.Needs.{needs}
 use Rattle.host.proofs.whelk_split.Statement.{statement}
 use Rattle.host.proofs.whelk_split.Tie as tie

@@ -1,6 +1,6 @@
 -- `host::whelk_write` meets its contract: the writer's outcome with its number and length in one.
 -- Assumes nothing.
-use Rattle.host.proofs.Carried.{write-carried}
+use Rattle.c_answers.proofs.Carried.{write-carried}
 use borrow.Author.Needs.{needs}
 use Rattle.host.proofs.whelk_write.Statement.{statement}
 use Rattle.host.proofs.whelk_write.Tie as tie

@@ -1,6 +1,6 @@
 -- `host::reasons::whelk_why_text` meets its contract: the outcome with its number and length in one, as of the list writer.
 -- Assumes nothing.
-use Rattle.host.proofs.Carried.{write-carried}
+use Rattle.c_answers.proofs.Carried.{write-carried}
 use borrow.Author.Needs.{needs}
 use Rattle.host.proofs.reasons.whelk_why_text.Statement.{statement}
 use Rattle.host.proofs.reasons.whelk_why_text.Tie as tie

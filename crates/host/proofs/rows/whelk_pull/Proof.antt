@@ -1,6 +1,6 @@
 -- `host::rows::whelk_pull` meets its contract: the pull's outcome, as a struct.
 -- Assumes nothing.
-use Rattle.host.proofs.PullCarried.{pull-carried}
+use Rattle.c_answers.proofs.PullCarried.{pull-carried}
 use borrow.Author.Needs.{needs}
 use Rattle.host.proofs.rows.whelk_pull.Statement.{statement}
 use Rattle.host.proofs.rows.whelk_pull.Tie as tie
