@@ -1,7 +1,7 @@
 #!/usr/bin/env python3
-"""A reference for the tests: the rules for feeds, plain lookup, run tables, packed segments, edits, splits, a list's text and the program, in
-Python's standard library. It was written from the rules alone, all but packed segments, edits, the text, zeros in front and replaced rows by
-hands that had seen none of the code it checks; made to be read against docs/RULES.md, not to be quick.
+"""A reference for the tests: the rules for feeds, plain lookup, run tables, packed segments, edits, splits, a list's text, why an address goes where
+it goes and the program, in Python's standard library. It was written from the rules alone, all but packed segments, edits, the text, zeros in front,
+replaced rows and the reasons by hands that had seen none of the code it checks; made to be read against docs/RULES.md, not to be quick.
 
 A prefix is a pair (network, length), a route a triple (network, length, hop). As a program it reads a feed from standard input and writes
 what the program `whelk` has to write.
@@ -106,6 +106,16 @@ def runs_of(routes):
         if not runs or runs[-1][1] != hop:
             runs.append((start, hop))
     return runs
+
+
+def holding(routes, address):
+    """The listed routes whose prefix holds the address, shortest first."""
+    return sorted((route for route in routes if route[0] <= address < route[0] + size_of(route[1])), key=lambda route: route[1])
+
+
+def holds_until(routes, address):
+    """The last address, from this one on, up to which the plain answer is the same."""
+    return min([start for start, _ in runs_of(routes) if start > address], default=SPACE) - 1
 
 
 def packed(routes, q):
