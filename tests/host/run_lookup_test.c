@@ -57,13 +57,12 @@ static uint16_t walked(size_t n, uint32_t address, uint32_t *last)
     return hops[i];
 }
 
-static void same(uint64_t got, uint64_t want, size_t n, uint32_t address)
+static void same(const char *what, uint64_t got, uint64_t want, size_t n, uint32_t address)
 {
-    lookups++;
     if (got == want)
         return;
     if (wrong++ < 5)
-        printf("  %lu runs, address %lu: %llu, not %llu\n", (unsigned long)n, (unsigned long)address, (unsigned long long)got,
+        printf("  %lu runs, address %lu, %s: %llu, not %llu\n", (unsigned long)n, (unsigned long)address, what, (unsigned long long)got,
                (unsigned long long)want);
 }
 
@@ -87,23 +86,22 @@ static uint8_t *bytes_of(size_t n)
    leaves all six. */
 static void in_bytes(const uint8_t *bytes, size_t length, uint32_t address, size_t lent, uint64_t want, uint32_t last)
 {
-    uint8_t out[6] = {1, 2, 3, 4, 5, 6}, left[6] = {1, 2, 3, 4, 5, 6};
-    int i;
-    same(whelk_run_lookup(bytes, length, address, out, lent), want, length / 6, address);
-    for (i = 0; i < 4 && want < 65536; i++)
-        left[i] = (uint8_t)(last >> (24 - 8 * i));
-    for (i = 0; i < 6; i++)
-        if (out[i] != left[i])
-            wrong++;
+    uint8_t out[6] = {1, 2, 3, 4, 5, 6};
+    size_t n = length / 6;
+    lookups++;
+    same("from bytes", whelk_run_lookup(bytes, length, address, out, lent), want, n, address);
+    same("the last address", (uint32_t)out[0] << 24 | (uint32_t)out[1] << 16 | (uint32_t)out[2] << 8 | out[3],
+         want < 65536 ? last : 0x01020304, n, address);
+    same("the bytes behind it", (uint32_t)out[4] << 8 | out[5], 0x0506, n, address);
 }
 
 /* The same in slices, with a number lent for the last address. */
 static void in_slices(size_t n, size_t starts_length, size_t hops_length, uint32_t address, uint64_t want, uint32_t last)
 {
     uint32_t out = 77;
-    same(whelk_run_lookup_slices(n, starts, starts_length, hops, hops_length, address, &out), want, n, address);
-    if (out != (want == REFUSED ? 77 : last))
-        wrong++;
+    lookups++;
+    same("from slices", whelk_run_lookup_slices(n, starts, starts_length, hops, hops_length, address, &out), want, n, address);
+    same("the last address from slices", out, want == REFUSED ? 77 : last, n, address);
 }
 
 /* one address, in slices and in run bytes */
@@ -116,8 +114,7 @@ static void at(const uint8_t *bytes, size_t n, uint32_t address)
     in_slices(n, MOST, MOST, address, (uint64_t)probes << 32 | hop, last);
     while (((size_t)1 << p) < n)
         p++;
-    if (probes > p)
-        wrong++;
+    same("more probes than 7.5 allows", probes > p, 0, n, address);
 }
 
 /* the table's edges, and then random addresses */
@@ -232,6 +229,7 @@ static void long_tables(void)
     }
 }
 
+/* the hop and the last address by the walk, which counts no probes */
 static void by_walking(void)
 {
     size_t n;
@@ -241,9 +239,12 @@ static void by_walking(void)
         well_formed(n);
         bytes = bytes_of(n);
         for (k = 0; k < 1000; k++) {
-            uint32_t address = k % 2 == 0 ? any() : starts[below((uint32_t)n)] - (uint32_t)(k / 2 % 2), last;
+            uint32_t address = k % 2 == 0 ? any() : starts[below((uint32_t)n)] - (uint32_t)(k / 2 % 2), last, by_halving;
             uint16_t hop = walked(n, address, &last);
+            unsigned probes;
+            halved(n, address, &probes, &by_halving);
             in_bytes(bytes, 6 * n, address, 4, hop, last);
+            in_slices(n, n, n, address, (uint64_t)probes << 32 | hop, last);
         }
     }
 }

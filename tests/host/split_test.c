@@ -1,7 +1,7 @@
 /* The split, half lookup and the build of a half against section 11 of docs/RULES.md, written here another way: each row of the first half is
    asked whether it holds a prefix or an address, and a run table has the answers at all edges. Every k of a list is split at, the halves are
-   looked up at each edge of a prefix and at random addresses, by half lookup and in their run tables, and the labels XOR to the list's answer.
-   Inputs come from a fixed seed. What is counted is the groups below. */
+   looked up at each edge of a prefix and at random addresses, by half lookup and in their run tables, and the labels XOR to the list's answer,
+   which holds up to the lesser of the two last addresses. Inputs come from a fixed seed. What is counted is the groups below. */
 #include <stdlib.h>
 #include <string.h>
 
@@ -249,14 +249,20 @@ static void labels_at(size_t k, size_t n, uint32_t address)
     lookups += 2;
 }
 
-/* The same in the run tables, without the probes. */
+/* The same in the run tables, without the probes. The list's answer is the same up to the lesser of the two last addresses. */
 static void run_labels_at(uint32_t address)
 {
-    uint32_t last;
-    uint64_t one = whelk_run_lookup_slices(built[0].runs, built[0].starts, built[0].runs, built[0].labels, built[0].runs, address, &last);
-    uint64_t other = whelk_run_lookup_slices(built[1].runs, built[1].starts, built[1].runs, built[1].labels, built[1].runs, address, &last);
-    same("the XOR in the run tables", (one ^ other) & 0xffffffff, longest(count, keys, hops, address));
+    uint32_t first, second, until;
+    uint64_t one = whelk_run_lookup_slices(built[0].runs, built[0].starts, built[0].runs, built[0].labels, built[0].runs, address, &first);
+    uint64_t other = whelk_run_lookup_slices(built[1].runs, built[1].starts, built[1].runs, built[1].labels, built[1].runs, address, &second);
+    uint16_t hop = longest(count, keys, hops, address);
     lookups += 2;
+    same("the XOR in the run tables", (one ^ other) & 0xffffffff, hop);
+    until = first < second ? first : second;
+    same("a last address below the one asked for", until < address, 0);
+    if (until < address) return;
+    same("the list's answer at the lesser last address", longest(count, keys, hops, until), hop);
+    same("the list's answer before it", longest(count, keys, hops, address + (uint32_t)(any() % ((uint64_t)until - address + 1))), hop);
 }
 
 static void at(size_t k, size_t n, uint32_t address)

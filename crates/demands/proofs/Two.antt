@@ -2,9 +2,9 @@
 -- the list at every address, and its hop holds until the last address that it gives; a packed segment says the same at every address of its
 -- segment. A list written as text reads back as the same list. Each answer here is any that keeps its entry's contract.
 -- Its definitions: `plainLookup`, `lookupGave` (routes, `Lookup`); `holds`, `lengthOf` (cidr, `Prefix`); `build`, `buildGave` (runs,
--- `Build`); `runLookup`, `runLookupGave`, `bytesLookup`, `bytesLookupGave` (runs, `Lookup`); `HoldsUntil` (runs, `HoldsUntil`); `runBytes`
--- (runs, `Bytes`); `pack`, `packGave` (segment, `Pack`); `packedLookup`, `packedGave` (segment, `Lookup`); `write`, `writeGave` (text,
--- `Text`); `import`, `importGave` (feed, `Import`).
+-- `Build`); `runLookup`, `runLookupGave`, `bytesLookup`, `bytesLookupGave` (runs, `Lookup`); `HoldsUntil` (runs, `HoldsUntil`); `runBytes`,
+-- `startAt` (runs, `Bytes`); `heldForC`, `heldGaveC` (host, `Exports`); `pack`, `packGave` (segment, `Pack`); `packedLookup`, `packedGave`
+-- (segment, `Lookup`); `write`, `writeGave` (text, `Text`); `import`, `importGave` (feed, `Import`).
 -- Assumes nothing.
 use mathlib.Core.Path.{_≡_, refl, sym, ap, _∙_}
 use mathlib.Core.Logic.{_⊎_, inl, inr, ⊎-elim}
@@ -29,11 +29,13 @@ use Rattle.routes.proofs.Plain.{NoMatch, Longest, plain-cases}
 use Rattle.runs.specs.declared.Built.the-variants.{Runs}
 use Rattle.runs.specs.declared.Probed.{Probed}
 use Rattle.runs.specs.declared.Held.{Held}
+use Rattle.runs.specs.declared.Held.the-variants.{Hop}
 use Rattle.runs.specs.Table.{runsLent, runStarts, runHops}
 use Rattle.runs.specs.Bytes.{runBytes, startAt}
 use Rattle.runs.specs.Build.{SlotsLent, BuildOutcome, built, buildGave, build, buildOf, buildChecks}
 use Rattle.runs.specs.Lookup.{runLookupGave, runLookup, BytesLookupOutcome, bytesLookupGave, bytesLookup}
 use Rattle.runs.specs.Pair.{Pair, listOf}
+use Rattle.runs.proofs.Found.{lastIn}
 use Rattle.runs.proofs.Lookups.{bytes-lookup-plain}
 use Rattle.runs.proofs.HoldsUntil.{HoldsUntil, holds-as, bytes-hold-until}
 use Rattle.runs.proofs.BuildThenLookup.{build-then-lookup, build-then-holds}
@@ -49,6 +51,8 @@ use Rattle.text.proofs.WriteThenImport.{ReadBackIn, write-then-import}
 use Rattle.feed.specs.declared.Imported.{Imported}
 use Rattle.feed.specs.Import.{ImportLent, importGave, import}
 use Rattle.c_answers.specs.Exports.{addressBytes}
+use Rattle.host.specs.Exports.{HeldForC, heldGaveC, heldForC}
+use Rattle.host.proofs.HeldCarried.{held-carried}
 
 -- an accepted plain lookup gives the hop of the longest listed prefix that holds the address, or 0 where none does
 module _ (l : ListLent) (a : ℕ) (r : Looked) (e : lookupGave r ≡ plainLookup l a) (d : lookupGave r .number ≡ done) where
@@ -73,6 +77,11 @@ pub run-table-holds : (l : ListLent) (t : SlotsLent) {n : ℕ} {starts hops : Li
     → {a : ℕ} (r : Probed) → a < addresses → runLookupGave r ≡ runLookup (runsLent n starts hops) a
     → HoldsUntil (λ b. plainLookup l b .hop) a (runLookupGave r .last)
 run-table-holds l t = build-then-holds l t
+
+-- the four bytes in which C gets the last address, read as run bytes give a start, are that address
+pub last-reads-back : (last : ℕ) (rest : List ℕ) → startAt (addressBytes last ++ rest) 0 ≡ last
+unfolding startAt
+last-reads-back last rest = omega arith
 
 -- the same of lookup in the run bytes of those runs
 module _ (l : ListLent) (t : SlotsLent) {n : ℕ} {starts hops : List ℕ} (b : buildGave (Runs n) starts hops ≡ build l t) where
@@ -114,10 +123,20 @@ module _ (l : ListLent) (t : SlotsLent) {n : ℕ} {starts hops : List ℕ} (b : 
         rw (ap (λ (o : BytesLookupOutcome). o .last) in-table)
         (holds-as (λ b. ap (λ (o : LookupOutcome). o .hop) (plain-accepted l b well)) (bytes-hold-until (rowsLent l) a below))
 
--- the four bytes in which C gets the last address, read as run bytes give a start, are that address
-pub last-reads-back : (last : ℕ) (rest : List ℕ) → startAt (addressBytes last ++ rest) 0 ≡ last
-unfolding startAt
-last-reads-back last rest = omega arith
+  -- and of what C gets with four bytes or more lent for the last address: it returns that hop with number 0, and its first four bytes, read
+  -- with the highest in front, are the last address
+  module _ (a x : ℕ) (lent out : List ℕ) (below : a < addresses) (room : 4 ≤ length lent)
+      (e : heldGaveC x out ≡ heldForC (runBytes (take n starts) (take n hops)) a lent) where
+    pub run-bytes-hold-for-c : (x ≡ plainLookup l a .hop) × HoldsUntil (λ b. plainLookup l b .hop) a (startAt out 0)
+    unfolding written
+    run-bytes-hold-for-c =
+        let last = lastIn (runStarts (rowsLent l)) a in
+        let r = Hop (plain (rowsLent l) a) last in
+        let gave = sym (ap (λ bytes. bytesLookup bytes a) bytes-are ∙ bytes-lookup-plain (rowsLent l) a below) in
+        let is = e ∙ sym (held-carried (runBytes (take n starts) (take n hops)) a r gave refl lent room) in (
+          ap (λ (o : HeldForC). o .answer) is ∙ sym (ap (λ (o : LookupOutcome). o .hop) (plain-accepted l a well)),
+          rw (ap (λ (o : HeldForC). o .last) is, last-reads-back last) (run-bytes-hold a r below gave),
+        )
 
 -- packed lookup in what an accepted packing left gives the plain answer, at every address of the segment
 pub packed-segment-says : (q : ℕ) (p : Pair) (l : PackLent) {w n m : ℕ} {words bases hops : List ℕ}

@@ -1,2 +1,2 @@
-mod HeldCarried
+pub mod HeldCarried
 pub mod Settled
