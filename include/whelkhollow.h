@@ -332,7 +332,7 @@ struct whelk_reason {
 };
 
 /* Says why an address gets its hop: lists all rows that hold it, the shortest prefix first, and names the one that decides, which is the last of
-   them: it holds the address and no longer listed prefix does. Its hop is what a lookup gives. Time: linear in the list, which it checks.
+   them: of the listed prefixes that hold the address it has the longest. Its hop is what a lookup gives. Time: linear in the list, which it checks.
    Lend the list, and WHELK_MOST_MATCHES slots in places; that is always enough.
    Returns number 0, how many rows hold the address and the place of the row that decides; or 11 if the list is ill-formed, or 13 if more rows hold
    it than places has slots.

@@ -9,11 +9,13 @@ static const char usage[] =
     "Reads a route feed from FEED, a row a line: a.b.c.d/len hop\n"
     "If FEED is -, it reads standard input.\n"
     "Prints for each ADDRESS, as 10.64.0.1, the rows that hold it, the shortest prefix first, each\n"
-    "as FEED:LINE: the row, and then a sentence: the hop, the row that decides, and up to which\n"
+    "as FEED:LINE: the row, and then a line: the hop, the row that decides, and up to which\n"
     "address, from this one on, the hop is the same; or that no listed prefix holds it.\n"
-    "LINE is the line that gave the prefix its hop: where rows of one prefix came, the last one.\n"
+    "LINE is the line that gave the prefix its hop: of several rows with one prefix, the last one\n"
+    "that wasn't refused.\n"
     "If rows of the feed were refused, or replaced an earlier hop, the counts go to standard error\n"
-    "first: a route that is missing here may be among them. whelk-import names those rows.\n"
+    "first: rows and taken, and the others that aren't 0. A route that is missing here may be among\n"
+    "the refused rows. whelk-import names those rows.\n"
     "It changes no file.\n"
     "Options:\n"
     "  --version prints the version\n"
@@ -42,13 +44,13 @@ static int say_counts(const struct feed *feed)
     const struct {
         const char *name;
         size_t rows;
-    } counts[] = {{"taken", c->taken}, {"shape", c->shape},       {"zeros", c->zeros},   {"range", c->range},
+    } counts[] = {{"shape", c->shape},       {"zeros", c->zeros},       {"range", c->range},
                   {"hostbits", c->hostbits}, {"replaced", c->replaced}, {"noroom", c->noroom}};
     if (c->taken == c->rows) return 0;
-    fprintf(stderr, "%s: %s: rows %zu", tool, feed->name, c->rows);
+    fprintf(stderr, "%s: %s: rows %zu, taken %zu", tool, feed->name, c->rows, c->taken);
     for (size_t i = 0; i < sizeof counts / sizeof *counts; i++)
         if (counts[i].rows) fprintf(stderr, ", %s %zu", counts[i].name, counts[i].rows);
-    fputs(" (whelk-import names the refused rows, with --replaced the replacing ones too)\n", stderr);
+    fputs(" (whelk-import names refused rows, with --replaced replacing ones too)\n", stderr);
     return sent(stderr, "standard error");
 }
 
@@ -88,13 +90,13 @@ static int say_why(const struct feed *feed, const size_t *lines, size_t runs, co
     }
     print_address(address);
     if (why.listed == 0) {
-        printf(" has no hop, since no listed prefix holds it; from it up to ");
+        printf(" has no hop: no listed prefix holds it. From it up to ");
         print_address(last);
         printf(" no address has one.\n");
         return 1;
     }
     size_t shown = (size_t)((uint8_t *)memchr(text + prefix, ' ', length) - (text + prefix));
-    printf(" goes to hop %u, since %.*s (line %zu) holds it and no longer listed prefix does; from it up to ", whelk_lookup_hop(found), (int)shown,
+    printf(" goes to hop %u: %.*s (line %zu) is the longest listed prefix that holds it. From it up to ", whelk_lookup_hop(found), (int)shown,
            (const char *)text + prefix, lines[why.place]);
     print_address(last);
     printf(" every address goes to hop %u.\n", whelk_lookup_hop(found));

@@ -30,11 +30,11 @@ def said(routes, lines, address):
     text = "".join(f"-:{lines[route[:2]]}: {list_text([route])}" for route in rows)
     until = dotted(holds_until(routes, address))
     if not rows:
-        return f"{dotted(address)} has no hop, since no listed prefix holds it; from it up to {until} no address has one.\n"
+        return f"{dotted(address)} has no hop: no listed prefix holds it. From it up to {until} no address has one.\n"
     network, length, hop = rows[-1]
     return (
-        f"{text}{dotted(address)} goes to hop {hop}, since {dotted(network)}/{length} (line {lines[network, length]}) holds it and no longer listed "
-        f"prefix does; from it up to {until} every address goes to hop {hop}.\n"
+        f"{text}{dotted(address)} goes to hop {hop}: {dotted(network)}/{length} (line {lines[network, length]}) is the longest listed prefix that "
+        f"holds it. From it up to {until} every address goes to hop {hop}.\n"
     )
 
 
@@ -42,8 +42,8 @@ def expected(feed, addresses):
     """What `whelk-why` has to print for a feed on its two streams, and its exit status."""
     numbers, routes = import_feed(feed, TOP_ROOM)
     lines, counts = lines_of(feed, numbers), counts_of(numbers)
-    unclean = ", ".join(f"{name} {count}" for name, count in zip(NAMES, counts) if count or name == "rows")
-    told = f"whelk-why: -: {unclean} (whelk-import names the refused rows, with --replaced the replacing ones too)\n" if counts[0] != counts[1] else ""
+    unclean = ", ".join(f"{name} {count}" for name, count in zip(NAMES, counts) if count or name in ("rows", "taken"))
+    told = f"whelk-why: -: {unclean} (whelk-import names refused rows, with --replaced replacing ones too)\n" if counts[0] != counts[1] else ""
     out = "\n".join(said(routes, lines, address) for address in addresses)
     return out.encode(), told.encode(), 0 if all(holding(routes, address) for address in addresses) else 1
 

@@ -32,7 +32,7 @@ use Rattle.why.specs.Text.{whyTextOf, whyTextChecks, whyText}
 use Rattle.edit.specs.Edit.{badPrefix, announceChecks, announce, withdrawChecks, withdraw}
 use Rattle.runs.specs.Bytes.{runBytes, startAt, hopAt}
 use Rattle.runs.specs.Lookup.{lastOf, inSlices, runChecks, runLookup, inBytes, bytesChecks, bytesLookup}
-use Rattle.c_answers.specs.Exports.{lookupForC, runLookupForC, probedForC}
+use Rattle.c_answers.specs.Exports.{lookupForC, runLookupForC, probedForC, writtenForC}
 use Rattle.host.specs.Exports.{heldChecks, heldForC}
 use Rattle.segment.specs.Packed.{width, blockHop, bit, wordFrom, wordsFor, codeWords, wordsOf, basesFrom, basesOf, keptHops, packedHopsOf}
 use Rattle.segment.specs.Lookup.{blockOf, onesTo, pastPlace, packedChecks, packedLookup}
@@ -48,7 +48,7 @@ unfolding allHold same firstFault stretch among turnsFrom size hostBits holds co
 marked-hold = tt
 
 pub corners-hold : T (allHold corners)
-unfolding placesOf placeOf reasonFor whyChecks why whyTextOf whyTextChecks whyText lower rowLength runRoom buildChecks pairIll pairChecks badPrefix announceChecks announce withdrawChecks withdraw allHold same written rewritten insertedAt removedAt firstFault outcome stretch among turnsFrom halves halving size hostBits isPrefix holds covers every those rowsOf listRoom prefixes hopsGiven ascends ascending halfRows goodRows wellFormed halfFormed formed matching longer longest plain announced withdrawn lookupChecks halfChecks rowsIn digits afterDigits fieldsOf hasZeroInFront valueFrom inPlaces valuesOf outOfRange hasHostBits numbersFault judgedNumbers judged readRow rowNumber listAfter rowNumbersFrom rowNumbers listFrom importedList orElse hopFor lastHop hopListed howMany countsOf importChecks import importTally pullOf pull pullsFrom pulls runBytes startAt hopAt inSlices runChecks inBytes width blockHop bit wordFrom wordsFor codeWords keptHops wordsOf basesFrom basesOf packedHopsOf blockOf onesTo pastPlace packedChecks covering relabelled firstHalf secondHalf splitChecks decimalBy decimal dottedText rowText textOf writeChecks lineOf nameLines countLines runLines ones onesIn isIn buildOf plainLookup halfLookup runLookup bytesChecks bytesLookup packedLookup split write lookupForC runLookupForC lastOf probedForC heldChecks heldForC
+unfolding placesOf placeOf reasonFor whyChecks why whyTextOf whyTextChecks whyText lower rowLength runRoom buildChecks pairIll pairChecks badPrefix announceChecks announce withdrawChecks withdraw allHold same written rewritten insertedAt removedAt firstFault outcome stretch among turnsFrom halves halving size hostBits isPrefix holds covers every those rowsOf listRoom prefixes hopsGiven ascends ascending halfRows goodRows wellFormed halfFormed formed matching longer longest plain announced withdrawn lookupChecks halfChecks rowsIn digits afterDigits fieldsOf hasZeroInFront valueFrom inPlaces valuesOf outOfRange hasHostBits numbersFault judgedNumbers judged readRow rowNumber listAfter rowNumbersFrom rowNumbers listFrom importedList orElse hopFor lastHop hopListed howMany countsOf importChecks import importTally pullOf pull pullsFrom pulls runBytes startAt hopAt inSlices runChecks inBytes width blockHop bit wordFrom wordsFor codeWords keptHops wordsOf basesFrom basesOf packedHopsOf blockOf onesTo pastPlace packedChecks covering relabelled firstHalf secondHalf splitChecks decimalBy decimal dottedText rowText textOf writeChecks lineOf nameLines countLines runLines ones onesIn isIn buildOf plainLookup halfLookup runLookup bytesChecks bytesLookup packedLookup split write lookupForC runLookupForC lastOf probedForC writtenForC heldChecks heldForC
 corners-hold = tt
 
 -- Rule 11.10: a half with label 0 is built. Its run table is over all addresses and so isn't computed; three run slots are enough for it.

@@ -2,8 +2,8 @@
 -- Assumes nothing.
 use mathlib.Core.List.{List, [], _∷_, _++_}
 use mathlib.Core.Option.{Option, none, some}
-use Prim.Native.Nat.{ℕ, _+_, _^_}
-use lib.ListN.{length}
+use Prim.Native.Nat.{ℕ, _+_, _*_, _^_}
+use lib.ListN.{length, replicate}
 use Rattle.ground.specs.Slots.{rewritten}
 use Rattle.ground.specs.Column.{isIn, insertedAt, removedAt, lower}
 use Rattle.halving.specs.Halving.{halving}
@@ -27,7 +27,7 @@ use Rattle.runs.specs.Pair.{Pair, pair}
 use Rattle.runs.specs.Bytes.{runBytes}
 use Rattle.edit.specs.Edit.{announce, withdraw}
 use Rattle.runs.specs.Lookup.{runLookup, bytesLookup}
-use Rattle.c_answers.specs.Exports.{lookupForC, runLookupForC, probedForC}
+use Rattle.c_answers.specs.Exports.{lookupForC, runLookupForC, probedForC, writtenForC, whyForC}
 use Rattle.host.specs.Exports.{heldForC}
 use Rattle.segment.specs.Packed.{width, wordsOf, basesOf, packedHopsOf}
 use Rattle.segment.specs.Lookup.{segmentLent, packedLookup}
@@ -74,9 +74,17 @@ lent keys hops report = record { keys = keys; hops = hops; report = report }
 abbrev pub nested : List Row
 nested = route 10 0 0 0 8 1 ∷ route 10 64 0 0 10 2 ∷ []
 
--- what the listing for 10.64.0.1 does with it and some places
+-- what the listing for 10.64.0.1 does with it and some places, and the listing's text with a buffer
 abbrev pub whyNested : List ℕ → WhyOutcome
 whyNested places = why (listLent 2 (keysOf nested) (hopsOf nested)) (dotted 10 64 0 1) places
+
+abbrev pub whyTextNested : List ℕ → WriteOutcome
+whyTextNested buffer = whyText (listLent 2 (keysOf nested) (hopsOf nested)) (dotted 10 64 0 1) buffer
+
+-- the numbers of C's struct for a listing, and then the places
+abbrev pub reasonInC : WhyOutcome → List ℕ
+reasonInC o =
+    whyForC o .answer .number ∷ whyForC o .answer .listed ∷ whyForC o .answer .place ∷ whyForC o .places
 
 -- the number of a split with room for two rows
 abbrev pub splitOf : ℕ → ℕ → List ℕ → List ℕ → ℕ
@@ -351,11 +359,29 @@ corners =
     ∷ figure (placesOf (dotted 200 28 0 0) listA ++ asList (reasonFor (dotted 200 28 0 0) listA)) []
     ∷ figure (placesOf 4294967295 ends ++ asList (reasonFor 4294967295 ends)) (0 ∷ 1 ∷ 2 ∷ 2 ∷ [])
     ∷ figure (placesOf 0 ends ++ asList (reasonFor 0 ends)) (0 ∷ 0 ∷ [])
-    -- Rules 18.3 and 18.4: two places in one slot are 13, and it stays; a slot behind them stays too. An ill-formed list is 11 without any room.
+    -- Rules 18.3 and 18.4: two places in one slot are 13, and it stays; two slots are enough, and a slot behind them stays.
     ∷ figure (whyNested (7 ∷ []) .number ∷ whyNested (7 ∷ []) .listed ∷ whyNested (7 ∷ []) .places) (13 ∷ 0 ∷ 7 ∷ [])
+    ∷ figure (whyNested (7 ∷ 8 ∷ []) .number ∷ whyNested (7 ∷ 8 ∷ []) .listed ∷ whyNested (7 ∷ 8 ∷ []) .places) (0 ∷ 2 ∷ 0 ∷ 1 ∷ [])
     ∷ figure (whyNested (7 ∷ 8 ∷ 9 ∷ []) .number ∷ whyNested (7 ∷ 8 ∷ 9 ∷ []) .listed ∷ whyNested (7 ∷ 8 ∷ 9 ∷ []) .places) (0 ∷ 2 ∷ 0 ∷ 1 ∷ 9 ∷ [])
-    ∷ figure (why illHalf 0 [] .number ∷ whyText illHalf 0 [] .number ∷ []) (11 ∷ 11 ∷ [])
+    -- Rules 5.2, 18.4 and 18.5: a row with hop 0 that holds the address, and no room for it: 11 comes before 13.
+    ∷ one (length (placesOf (dotted 10 0 0 0) (route 10 0 0 0 8 0 ∷ []))) 1
+    ∷ figure (why label0 (dotted 10 0 0 0) [] .number ∷ whyText label0 (dotted 10 0 0 0) [] .number ∷ []) (11 ∷ 11 ∷ [])
+    -- Rules 18.2 to 18.5: the empty list needs no room, and lent memory stays.
+    ∷ figure (why (listLent 0 [] []) 0 [] .number ∷ whyText (listLent 0 [] []) 0 [] .number ∷ whyText (listLent 0 [] []) 0 [] .length ∷ []) (0 ∷ 0 ∷ 0 ∷ [])
+    ∷ figure (why (listLent 0 [] []) 0 (7 ∷ []) .listed ∷ asList (why (listLent 0 [] []) 0 (7 ∷ []) .reason) ++ why (listLent 0 [] []) 0 (7 ∷ []) .places) (0 ∷ 7 ∷ [])
     -- Rule 18.5: the text of the rows that hold an address, and of none.
     ∷ figure (whyTextOf (dotted 10 64 0 1) nested) (bytes "10.0.0.0/8 1\n10.64.0.0/10 2\n")
     ∷ figure (whyTextOf (dotted 11 0 0 0) nested) []
+    -- Rule 18.5: 27 bytes for a text of 28 are 13, and they stay; 28 are enough, and a byte behind them stays.
+    ∷ figure (whyTextNested (replicate 27 9) .number ∷ whyTextNested (replicate 27 9) .length ∷ []) (13 ∷ 0 ∷ [])
+    ∷ figure (whyTextNested (replicate 27 9) .buffer) (replicate 27 9)
+    ∷ figure (whyTextNested (replicate 28 9) .number ∷ whyTextNested (replicate 28 9) .length ∷ []) (0 ∷ 28 ∷ [])
+    ∷ figure (whyTextNested (replicate 29 9) .buffer) (bytes "10.0.0.0/8 1\n10.64.0.0/10 2\n" ++ 9 ∷ [])
+    -- Rule 18.6: C gets the number, how many places there are and the place that decides, 0 where no row does and on a refusal.
+    ∷ figure (reasonInC (whyNested (7 ∷ 8 ∷ []))) (0 ∷ 2 ∷ 1 ∷ 0 ∷ 1 ∷ [])
+    ∷ figure (reasonInC (why (listLent 0 [] []) 0 (7 ∷ []))) (0 ∷ 0 ∷ 0 ∷ 7 ∷ [])
+    ∷ figure (reasonInC (whyNested (7 ∷ []))) (13 ∷ 0 ∷ 0 ∷ 7 ∷ [])
+    ∷ figure (reasonInC (why label0 (dotted 10 0 0 0) [])) (11 ∷ 0 ∷ 0 ∷ [])
+    ∷ one (writtenForC (whyTextNested (replicate 28 9))) 28
+    ∷ one (writtenForC (whyTextNested (replicate 27 9))) (13 * 4294967296)
     ∷ []

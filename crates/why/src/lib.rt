@@ -39,6 +39,7 @@ fn find(
         × (now (found .exit) ≡ written (placesOf a (rowsOf count (now (keys .entry)) (now (hops .entry)))) (now (found .entry))) ⌝ }
 {
     let mut n = 0;
+    // The place is made from how many rows are left, so that one line says in which direction the walk goes.
     let mut left = count;
     while 0 < left {
         let at = count - left;
