@@ -1,31 +1,49 @@
-/* Hints: a router that is told the length of its neighbour's best match asks its entries, and searches its run table where they aren't final.
-   Neighbours with one list, and with lists that differ in about 300 rows. Seven of eight addresses go to a listed prefix, as packets do. First beside the
-   same in C, and then, in the rows "over lookup", our hints beside our run lookup alone. */
+/* Hints: a router that is told the length of its neighbour's best match asks its entries, and searches its run table where they aren't final. Both
+   routers have one list, and then lists that differ in 300 rows. Those of at most 100,000 rows and their million addresses are the very ones of
+   tests/clue/two_routers.c, which counts how many are final; the other sizes have fewer addresses.
+
+   "entries" builds the entries for the neighbour's prefixes, which come in key order: a time for each entry. The others are for each address: "hints"
+   of all of them as they come, "final" and "searched" of those that have a final hop and of those that haven't, each kind by itself. First beside the
+   same in C, and then, in the rows "over lookup", our hints beside our run lookup alone of the same addresses. */
 #include "in_c.h"
 #include "measure.h"
-#include "nested.h"
-#include "whelkhollow_clue.h"
+#include "../tests/clue/lists.h"
 
 #define MOST 1000000u
-#define CHANGES 100u
-#define LOOKUPS 100000u
+#define ADDRESSES 1000000u
 
-static uint64_t keys[MOST + CHANGES], sent[MOST], entry_keys[MOST];
-static uint16_t hops[MOST + CHANGES], entry_hops[MOST], run_hops[2 * (MOST + CHANGES) + 1];
-static uint8_t lengths[MOST], marks[MOST], clue_lengths[LOOKUPS];
-static uint32_t networks[MOST], starts[2 * (MOST + CHANGES) + 1], addresses[LOOKUPS];
-static size_t rows, clues, entries, runs;
+static uint64_t keys[MOST], sent[MOST], entry_keys[MOST];
+static uint16_t hops[MOST], entry_hops[MOST], run_hops[2 * MOST + 1];
+static uint8_t lengths[MOST], marks[MOST];
+static uint32_t networks[MOST], starts[2 * MOST + 1];
+static size_t rows, entries, runs;
 
-#define OVER_ADDRESSES(answer)                  \
-    {                                           \
-        uint64_t sum = 0;                       \
-        uint32_t last = 0;                      \
-        size_t i;                               \
-        for (i = 0; i < LOOKUPS; i++) {         \
-            uint32_t a = addresses[i];          \
-            sum = sum * 31 + (answer);          \
-        }                                       \
-        return sum + (last & 0);                \
+/* Addresses, each with the length that the neighbour sends: as they come, and sorted into the two kinds. */
+static struct packets {
+    size_t count;
+    uint32_t addresses[ADDRESSES];
+    uint8_t lengths[ADDRESSES];
+} all, final, searched;
+
+static const struct packets *asked;
+
+static void add(struct packets *to, uint32_t address, uint8_t length)
+{
+    to->addresses[to->count] = address;
+    to->lengths[to->count++] = length;
+}
+
+#define OVER_PACKETS(answer)                        \
+    {                                               \
+        const struct packets *these = asked;        \
+        uint64_t sum = 0;                           \
+        uint32_t last = 0;                          \
+        size_t i;                                   \
+        for (i = 0; i < these->count; i++) {        \
+            uint32_t a = these->addresses[i];       \
+            sum = sum * 31 + (answer);              \
+        }                                           \
+        return sum + (last & 0);                    \
     }
 
 static inline uint16_t search(uint32_t a, uint32_t *last)
@@ -33,9 +51,14 @@ static inline uint16_t search(uint32_t a, uint32_t *last)
     return whelk_lookup_hop(whelk_run_lookup_slices(runs, starts, runs, run_hops, runs, a, last));
 }
 
+static inline uint32_t ask(uint32_t a, uint32_t length)
+{
+    return whelk_clue_quick(entry_keys, entries, entry_hops, entries, marks, entries, length, a);
+}
+
 static inline uint16_t hint(uint32_t a, uint32_t length, uint32_t *last)
 {
-    uint32_t told = whelk_clue_quick(entry_keys, entries, entry_hops, entries, marks, entries, length, a);
+    uint32_t told = ask(a, length);
     return whelk_clue_is_final(told) ? whelk_clue_hop(told) : search(a, last);
 }
 
@@ -46,77 +69,81 @@ static inline uint16_t hint_in_c(uint32_t a, uint32_t length, uint32_t *last)
                                      : whelk_lookup_hop(c_run_lookup_slices(runs, starts, runs, run_hops, runs, a, last));
 }
 
-static uint64_t hinted(void) OVER_ADDRESSES(hint(a, clue_lengths[i], &last))
-static uint64_t hinted_in_c(void) OVER_ADDRESSES(hint_in_c(a, clue_lengths[i], &last))
-static uint64_t searched(void) OVER_ADDRESSES(search(a, &last))
+static uint64_t hinted(void) OVER_PACKETS(hint(a, these->lengths[i], &last))
+static uint64_t hinted_in_c(void) OVER_PACKETS(hint_in_c(a, these->lengths[i], &last))
+static uint64_t looked_up(void) OVER_PACKETS(search(a, &last))
 
-static void build(void)
+static struct whelk_entries enter_by(entering *enter)
 {
-    uint64_t built = whelk_build(rows, keys, rows, hops, rows, starts, 2 * rows + 1, run_hops, 2 * rows + 1);
-    runs = whelk_build_runs(built);
+    return enter(rows, keys, rows, hops, rows, lengths, rows, networks, rows, entry_keys, rows, entry_hops, rows, marks, rows);
 }
 
-/* The length of the best match among what the neighbour has, found row by row over each length. */
+static uint64_t left_by(entering *enter)
+{
+    struct whelk_entries made = enter_by(enter);
+    return made.number + 3 * made.count + 5 * written(entry_keys, sizeof entry_keys) + 7 * written(entry_hops, sizeof entry_hops) +
+           11 * written(marks, sizeof marks);
+}
+
+static uint64_t entered(void) { return left_by(whelk_clue_build); }
+static uint64_t entered_in_c(void) { return left_by(c_clue_build); }
+
+/* The length of the neighbour's best match, looked for length by length. */
 static uint8_t best(uint32_t a)
 {
-    for (unsigned length = 32; length > 0; length--) {
-        uint64_t k = (uint64_t)(a >> (32 - length) << (32 - length)) << 6 | length;
-        if (bsearch(&k, sent, clues, sizeof k, ascending)) return (uint8_t)length;
+    unsigned length;
+    for (length = 32; length > 0; length--) {
+        uint64_t k = whelk_key(a >> (32 - length) << (32 - length), length);
+        if (bsearch(&k, sent, rows, sizeof k, by_key)) return (uint8_t)length;
     }
     return 0;
 }
 
-static void forward(const char *lists)
+static void times_of(const struct packets *these, const char *what, const char *over_lookup, const char *lists)
 {
-    struct whelk_entries built = whelk_clue_build(rows, keys, rows, hops, rows, lengths, clues, networks, clues, entry_keys, clues, entry_hops, clues,
-                                                  marks, clues);
-    size_t i, finals = 0;
-    if (built.number != WHELK_DONE) exit(1);
-    entries = built.count;
-    for (i = 0; i < LOOKUPS; i++) {
-        size_t row = any() % clues;
-        addresses[i] = i % 8 ? networks[row] | any() >> lengths[row] : any();
-        clue_lengths[i] = best(addresses[i]);
-        finals += (size_t)whelk_clue_is_final(whelk_clue_quick(entry_keys, entries, entry_hops, entries, marks, entries, clue_lengths[i], addresses[i]));
+    asked = these;
+    row(what, entries, lists, hinted, hinted_in_c, these->count);
+    row(over_lookup, entries, lists, hinted, looked_up, these->count);
+}
+
+static void forward(const char *lists, size_t packets)
+{
+    struct whelk_entries made;
+    size_t i;
+    runs = whelk_build_runs(whelk_build(rows, keys, rows, hops, rows, starts, 2 * rows + 1, run_hops, 2 * rows + 1));
+    row("entries", rows, lists, entered, entered_in_c, rows);
+    made = enter_by(whelk_clue_build);
+    if (made.number != WHELK_CLUE_DONE) exit(1);
+    entries = made.count;
+    seed = 20261120;
+    all.count = final.count = searched.count = 0;
+    for (i = 0; i < packets; i++) {
+        uint32_t a = any_address(i, sent, rows);
+        uint8_t length = best(a);
+        add(&all, a, length);
+        add(whelk_clue_is_final(ask(a, length)) ? &final : &searched, a, length);
     }
-    row("hints", entries, lists, hinted, hinted_in_c, LOOKUPS);
-    row("hints over lookup", entries, lists, hinted, searched, LOOKUPS);
-    printf("  final: %zu of %u\n", finals, LOOKUPS);
+    times_of(&all, "hints", "hints over lookup", lists);
+    times_of(&final, "final", "final over lookup", lists);
+    times_of(&searched, "searched", "searched over lookup", lists);
+    printf("  of %zu addresses %zu final, %zu searched\n", all.count, final.count, searched.count);
 }
 
 int main(void)
 {
-    size_t n, i, k;
-    for (n = 1000; n <= MOST; n *= 10) {
-        clues = rows = nested_once(keys, n);
+    size_t most, i;
+    for (most = 1000; most <= MOST; most *= 10) {
+        size_t packets = most == 100000 ? ADDRESSES : ADDRESSES / 10;
+        seed = 20261119;
+        rows = make_list(keys, hops, most);
         for (i = 0; i < rows; i++) {
-            hops[i] = (uint16_t)(1 + any() % 200);
             sent[i] = keys[i];
-            lengths[i] = (uint8_t)(keys[i] % 64);
-            networks[i] = (uint32_t)(keys[i] >> 6);
+            lengths[i] = (uint8_t)whelk_key_length(keys[i]);
+            networks[i] = whelk_key_network(keys[i]);
         }
-        build();
-        forward("same");
-        for (k = 0; k < CHANGES; k++) { /* another hop, a row less, a row more */
-            i = any() % rows;
-            hops[i] = (uint16_t)(hops[i] % 200 + 1);
-            i = any() % rows;
-            memmove(keys + i, keys + i + 1, (rows - i - 1) * sizeof *keys);
-            memmove(hops + i, hops + i + 1, (rows - i - 1) * sizeof *hops);
-            rows--;
-        }
-        for (k = 0; k < CHANGES; k++) {
-            uint64_t new = (uint64_t)(any() >> 8 << 8) << 6 | 24;
-            for (i = 0; i < rows && keys[i] < new; i++) {}
-            if (i < rows && keys[i] == new) continue;
-            memmove(keys + i + 1, keys + i, (rows - i) * sizeof *keys);
-            memmove(hops + i + 1, hops + i, (rows - i) * sizeof *hops);
-            keys[i] = new;
-            hops[i] = 250;
-            rows++;
-        }
-        build();
-        forward("differ");
+        forward("same", packets);
+        change_list(keys, hops, rows);
+        forward("differ", packets);
     }
     return 0;
 }

@@ -1,11 +1,12 @@
-/* What bench/in_c has: each function does the work of the one of whelkhollow.h with the same name after its first part. */
+/* What bench/in_c has: each function does the work of the one of whelkhollow.h, or of
+   whelkhollow_clue.h, with the same name after its first part. */
 #ifndef IN_C_H
 #define IN_C_H
 
 #include <stddef.h>
 #include <stdint.h>
 
-#include "whelkhollow.h"
+#include "whelkhollow_clue.h"
 
 uint32_t c_run_lookup(const uint8_t *bytes, size_t length, uint32_t address, uint8_t *last, size_t last_length);
 uint64_t c_run_lookup_slices(size_t n, const uint32_t *starts, size_t starts_length, const uint16_t *hops, size_t hops_length,
@@ -44,6 +45,11 @@ size_t c_pair_check(size_t count, const uint64_t *keys, size_t keys_length, cons
                     const uint32_t *starts, size_t starts_length, const uint16_t *run_hops, size_t run_hops_length);
 announcing c_edit_agreed;
 
+typedef struct whelk_entries entering(size_t count, const uint64_t *keys, size_t keys_length, const uint16_t *hops, size_t hops_length,
+                                      const uint8_t *lengths, size_t lengths_length, const uint32_t *addresses, size_t addresses_length,
+                                      uint64_t *entry_keys, size_t entry_keys_length, uint16_t *entry_hops, size_t entry_hops_length,
+                                      uint8_t *marks, size_t marks_length);
+entering c_clue_build;
 uint32_t c_clue_quick(const uint64_t *keys, size_t keys_length, const uint16_t *hops, size_t hops_length, const uint8_t *marks,
                       size_t marks_length, uint32_t length, uint32_t address);
 

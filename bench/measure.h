@@ -64,11 +64,11 @@ static inline void print_row(const char *what, unsigned long size, const char *i
     static struct {
         const char *what, *inputs;
         double time;
-    } last[8];
+    } last[16];
     int i;
     printf("%-22s %9lu  %-9s%6.2f %10.1f ns %10.1f ns", what, size, inputs, ours / in_c, 1e9 * ours, 1e9 * in_c);
-    for (i = 0; i < 8 && last[i].what && (last[i].what != what || last[i].inputs != inputs); i++) {}
-    if (i < 8) {
+    for (i = 0; i < 16 && last[i].what && (last[i].what != what || last[i].inputs != inputs); i++) {}
+    if (i < 16) {
         if (last[i].what) printf("  x %.2f", ours / last[i].time);
         last[i].what = what;
         last[i].inputs = inputs;

@@ -5,20 +5,6 @@
 
 #include <string.h>
 
-/* How many keys are below this one. */
-static size_t keys_below(const uint64_t *keys, size_t count, uint64_t key)
-{
-    size_t low = 0, high = count;
-    while (low < high) {
-        size_t place = low + (high - low) / 2;
-        if (keys[place] < key)
-            low = place + 1;
-        else
-            high = place;
-    }
-    return low;
-}
-
 /* How many starts are below this address, which may be past the last one. */
 static size_t starts_below(const uint32_t *starts, size_t runs, uint64_t address)
 {
@@ -31,17 +17,6 @@ static size_t starts_below(const uint32_t *starts, size_t runs, uint64_t address
             high = place;
     }
     return low;
-}
-
-/* The hop of the longest listed prefix that is shorter and holds this one, or 0. */
-static uint16_t hop_around(uint64_t network, uint32_t length, size_t count, const uint64_t *keys, const uint16_t *hops)
-{
-    while (length-- > 0) {
-        uint64_t key = (network >> (32 - length) << (32 - length)) << 6 | length;
-        size_t place = keys_below(keys, count, key);
-        if (place < count && keys[place] == key) return hops[place];
-    }
-    return 0;
 }
 
 /* The runs inside a prefix: how many, the hops of the first and of the last, and how many addresses are in no row inside. */

@@ -4,98 +4,28 @@
 
    The list is 0.0.0.0/0 1, 10.0.0.0/8 7, 10.64.0.0/10 9, and the withdrawn and announced route is the last. */
 #define _DEFAULT_SOURCE
-#include <stdlib.h>
-#include <string.h>
-#include <sys/mman.h>
-#include <unistd.h>
-
-#include "testing.h"
 #include "whelkhollow.h"
+
+/* every export */
+#define EXPORTED \
+    {"whelk_import", 0, 0}, {"whelk_import_tally", 0, 0}, {"whelk_pull", 0, 0}, {"whelk_write", 0, 0}, \
+    {"whelk_build", 0, 0}, {"whelk_pair_check", 0, 0}, {"whelk_plain_lookup", 0, 0}, {"whelk_run_lookup_slices", 0, 0}, \
+    {"whelk_run_lookup", 0, 0}, {"whelk_pack", 0, 0}, {"whelk_packed_lookup", 0, 0}, {"whelk_announce", 0, 0}, \
+    {"whelk_withdraw", 0, 0}, {"whelk_split", 0, 0}, {"whelk_half_lookup", 0, 0}, {"whelk_build_half", 0, 0}, \
+    {"whelk_why", 0, 0}, {"whelk_why_text", 0, 0}
+
+enum { FEED, KEYS, HOPS, REPORT, STARTS, RUN_HOPS, OUT_A, OUT_B, OUT_C, SLICES };
+
+#include "lent.h"
 
 #define ROWS 3
 #define RUNS 5
-#define PAGE 4096
-#define FILL 0xa5
 
 static const uint64_t list_keys[ROWS] = {0, (uint64_t)0x0a000000 * 64 + 8, (uint64_t)0x0a400000 * 64 + 10};
 static const uint16_t list_hops[ROWS] = {1, 7, 9};
 static const uint32_t run_starts[RUNS] = {0, 0x0a000000, 0x0a400000, 0x0a800000, 0x0b000000};
 static const uint16_t run_hops[RUNS] = {1, 7, 9, 7, 1};
 static const char feed_text[] = "0.0.0.0/0 1\n10.0.0.0/8 7\n10.64.0.0/10 9\n";
-
-/* Every export, with how many checks of its calls there were, and how many were wrong. */
-static struct export {
-    const char *name;
-    unsigned long checks, wrong;
-} exports[] = {{"whelk_import", 0, 0},       {"whelk_import_tally", 0, 0}, {"whelk_pull", 0, 0},       {"whelk_write", 0, 0},
-               {"whelk_build", 0, 0},        {"whelk_pair_check", 0, 0},   {"whelk_plain_lookup", 0, 0}, {"whelk_run_lookup_slices", 0, 0},
-               {"whelk_run_lookup", 0, 0},   {"whelk_pack", 0, 0},         {"whelk_packed_lookup", 0, 0}, {"whelk_announce", 0, 0},
-               {"whelk_withdraw", 0, 0},     {"whelk_split", 0, 0},        {"whelk_half_lookup", 0, 0},  {"whelk_build_half", 0, 0},
-               {"whelk_why", 0, 0},          {"whelk_why_text", 0, 0}};
-#define EXPORTS (sizeof exports / sizeof *exports)
-
-static void call(const char *name, int ok)
-{
-    for (size_t i = 0; i < EXPORTS; i++)
-        if (strcmp(exports[i].name, name) == 0) {
-            exports[i].checks++;
-            exports[i].wrong += !ok;
-            return;
-        }
-    check(name, 0);
-}
-
-/* A lent slice at the end of a page. `length` counts elements of `size` bytes. */
-struct lent {
-    uint8_t *page;
-    size_t size, length;
-    uint8_t before[PAGE]; /* the page as it was lent */
-};
-
-enum { FEED, KEYS, HOPS, REPORT, STARTS, RUN_HOPS, OUT_A, OUT_B, OUT_C, SLICES };
-static struct lent slices[SLICES];
-
-static void map_slices(void)
-{
-    for (int i = 0; i < SLICES; i++) {
-        uint8_t *pages = mmap(NULL, 3 * PAGE, PROT_NONE, MAP_PRIVATE | MAP_ANONYMOUS, -1, 0);
-        if (pages == MAP_FAILED || mprotect(pages + PAGE, PAGE, PROT_READ | PROT_WRITE) != 0) {
-            puts("no memory");
-            exit(1);
-        }
-        slices[i].page = pages + PAGE;
-    }
-}
-
-static void *place(int slice)
-{
-    return slices[slice].page + PAGE - slices[slice].size * slices[slice].length;
-}
-
-/* Lends `length` elements; the first of them are those of `from`, as many as there are and fit. */
-static void lend(int slice, size_t length, size_t size, const void *from, size_t there)
-{
-    struct lent *s = &slices[slice];
-    s->size = size;
-    s->length = length;
-    memset(s->page, FILL, PAGE);
-    if (from) memcpy(place(slice), from, size * (there < length ? there : length));
-    memcpy(s->before, s->page, PAGE);
-}
-
-/* Whether all of a slice's page is as it was lent but for its first `written` elements, which are those of `from`. */
-static int left(int slice, const void *from, size_t written)
-{
-    struct lent *s = &slices[slice];
-    size_t start = PAGE - s->size * s->length, end = start + s->size * written;
-    return end <= PAGE && memcmp(s->page, s->before, start) == 0 && memcmp(s->page + end, s->before + end, PAGE - end) == 0 &&
-           (written == 0 || memcmp(s->page + start, from, s->size * written) == 0);
-}
-
-static int stays(int slice)
-{
-    return left(slice, NULL, 0);
-}
 
 static void lend_list(size_t keys, size_t hops)
 {
@@ -118,21 +48,6 @@ static int runs_stay(void)
 {
     return stays(STARTS) && stays(RUN_HOPS);
 }
-
-#define SLICE(slice) place(slice), slices[slice].length
-
-/* The lengths that are tried of a slice which needs `n` elements: none, one less, enough, more. */
-static size_t tried(int which, size_t n)
-{
-    const size_t lengths[4] = {0, n - 1, n, n + 3};
-    return lengths[which];
-}
-
-/* Runs `body` for each of the lengths of two slices. */
-#define EACH(a, need_a, b, need_b) \
-    for (int i_##a = 0; i_##a < 4; i_##a++) \
-        for (int i_##b = 0; i_##b < 4; i_##b++) \
-            for (size_t a = tried(i_##a, need_a), b = tried(i_##b, need_b), once_##a = 1; once_##a; once_##a = 0)
 
 static void imports(void)
 {
@@ -432,9 +347,5 @@ int main(void)
     packs();
     edits();
     splits();
-    for (size_t i = 0; i < EXPORTS; i++) {
-        printf("%s: %lu checks, %lu wrong\n", exports[i].name, exports[i].checks, exports[i].wrong);
-        check(exports[i].name, exports[i].checks > 0 && exports[i].wrong == 0);
-    }
-    return finish();
+    return finish_exports();
 }

@@ -76,7 +76,7 @@ shared-slice-read-if5-2 c = search needs
 returns-4 : tie.Need-returns-4 Inv-loop μ-loop
 returns-4 c =
     let t = turn (at-entry (c .before) .before) in
-    walk-stops (t .before .loop .inv) (t .loop-test .taken) (omega arith) (c .if5 .taken)
+    walk-stops (t .before .loop .inv) (t .loop-test .taken) (omega arith) (omega (arith, c .if5 .taken))
 
 loop-less : tie.Need-loop-less Inv-loop μ-loop
 loop-less c = search needs

@@ -38,7 +38,7 @@ at-start c = c .before .before .before .before .before .before
 returns : tie.Need-returns
 returns c =
     let s = c .before .before .before .before .before .before in
-    sym (hint-long (lent s) (entries s) (s .args .len) (s .args .a) (c .if1 .taken))
+    sym (hint-long (lent s) (entries s) (s .args .len) (s .args .a) (omega (arith, c .if1 .taken)))
 
 list-ok-requires : tie.Need-list-ok-requires
 list-ok-requires c κs = search needs

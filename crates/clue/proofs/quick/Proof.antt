@@ -32,7 +32,7 @@ returns-2 : tie.Need-returns-2
 returns-2 c =
     let r = c .before .before in
     let args = at-start r .args in
-    quick-long (entries r) (args .len) (args .a) (c .if2 .taken)
+    quick-long (entries r) (args .len) (args .a) (omega (arith, c .if2 .taken))
 
 clue-key-requires : tie.Need-clue-key-requires
 clue-key-requires c κs = search needs
@@ -71,7 +71,7 @@ returns-3 c =
     let h = c .before .before in
     let r = at-room (h .before) in
     let args = at-start r .args in
-    quick-other (entries r) (args .len) (args .a) (place-is h) (λ e. c .if3 .taken (e ∙ sym (h .before .clue-key .ensures)))
+    quick-other (entries r) (args .len) (args .a) (place-is h) (λ e. omega (arith, c .if3 .taken, e, h .before .clue-key .ensures))
 
 shared-slice-read-if4 : tie.Need-shared-slice-read-if4
 shared-slice-read-if4 c =
@@ -83,7 +83,7 @@ returns-4 c =
     let h = c .before .before .before .before in
     let r = at-room (h .before) in
     let args = at-start r .args in
-    quick-marked (entries r) (args .len) (args .a) (place-is h) (c .if4 .taken)
+    quick-marked (entries r) (args .len) (args .a) (place-is h) (λ e. omega (arith, c .if4 .taken, e))
 
 mul-t12 : tie.Need-mul-t12
 mul-t12 c =

@@ -50,7 +50,7 @@ found c =
 returns-2 : tie.Need-returns-2
 returns-2 c =
     let h = c .before in
-    another-hop _ _ _ _ (is-prefix (h .before .before)) (found h) (c .if2 .taken)
+    another-hop _ _ _ _ (is-prefix (h .before .before)) (found h) (λ e. omega (arith, c .if2 .taken, e))
 
 extension-requires : tie.Need-extension-requires
 extension-requires c κs =
