@@ -29,11 +29,10 @@ module _ (feed : List ℕ) (n : ℕ) where
 
 -- Where the walk along a row stands: the row's end is the same from here.
 pub record Along (feed : List ℕ) (at end : ℕ) : Type 0 where
-  pub within : end ≤ length feed
   pub same-end : end + rowLength (drop end feed) ≡ at + rowLength (drop at feed)
 
-pub along-start : (feed : List ℕ) (at : ℕ) → at ≤ length feed → Along feed at at
-along-start feed at h = record { within = h; same-end = refl }
+pub along-start : (feed : List ℕ) (at : ℕ) → Along feed at at
+along-start feed at = record { same-end = refl }
 
 module _ {feed : List ℕ} {at end : ℕ} (s : Along feed at end) where
   pub along-end : length feed ≤ end → end ≡ at + rowLength (drop at feed)
@@ -44,7 +43,7 @@ module _ {feed : List ℕ} {at end : ℕ} (s : Along feed at end) where
     along-LF e = omega (arith, s .same-end, length-at-LF feed end h e)
 
     pub along-more : (getD feed end 0 ≡ LF → ⊥) → Along feed at (end + 1)
-    along-more e = record { within = omega arith; same-end = omega (arith, s .same-end, length-past feed end h e) }
+    along-more e = record { same-end = omega (arith, s .same-end, length-past feed end h e) }
 
 row-length-le : (bs : List ℕ) → rowLength bs ≤ length bs
 unfolding rowLength
