@@ -10,7 +10,7 @@ use Rattle.feed.specs.declared.NextRow.the-variants as N
 use Rattle.feed.specs.declared.RowPulled.{RowPulled}
 use Rattle.feed.specs.Reading.{bad, readingOf}
 use Rattle.feed.specs.Pull.{Pulled, nextReading, pullGave}
-use Rattle.c_answers.specs.declared.rows.WhelkRow.{WhelkRow}
+use Rattle.c_answers.specs.declared.pulls.WhelkRow.{WhelkRow}
 use Rattle.c_answers.specs.Exports.{rowForC, pullForC}
 
 module _ (r : RowRead) {next : ℕ} where

@@ -24,7 +24,7 @@ use Rattle.c_answers.specs.declared.WhelkCounts.{WhelkCounts}
 use Rattle.c_answers.specs.declared.WhelkPacked.{WhelkPacked}
 use Rattle.c_answers.specs.declared.edits.WhelkEdit.{WhelkEdit}
 use Rattle.c_answers.specs.declared.reasons.WhelkReason.{WhelkReason}
-use Rattle.c_answers.specs.declared.rows.WhelkRow.{WhelkRow}
+use Rattle.c_answers.specs.declared.pulls.WhelkRow.{WhelkRow}
 
 -- Rule 4.5: the eight counts that C gets, all rows and then one for each row number.
 abbrev pub countsIn : WhelkCounts → Counts

@@ -14,7 +14,7 @@ use Rattle.c_answers.specs.declared.WhelkCounts.{WhelkCounts}
 use Rattle.c_answers.specs.declared.WhelkPacked.{WhelkPacked}
 use Rattle.c_answers.specs.declared.edits.WhelkEdit.{WhelkEdit}
 use Rattle.c_answers.specs.declared.reasons.WhelkReason.{WhelkReason}
-use Rattle.c_answers.specs.declared.rows.WhelkRow.{WhelkRow}
+use Rattle.c_answers.specs.declared.pulls.WhelkRow.{WhelkRow}
 use Rattle.c_answers.specs.Exports.{pullForC, ProbedForC, probedGaveC, WhyForC, whyGaveC, countsForC, hostImportGave, hostPackGave, hostEditGave}
 use Rattle.c_answers.specs.Exports.{BuildForC, buildGaveC, WriteForC, writeGaveC, SplitForC, splitGaveC}
 use Rattle.host.specs.Exports.{HostTallyGave, HeldForC, heldGaveC}

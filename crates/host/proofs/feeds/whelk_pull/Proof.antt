@@ -1,9 +1,9 @@
--- `host::rows::whelk_pull` meets its contract: the pull's outcome, as a struct.
+-- `host::feeds::whelk_pull` meets its contract: the pull's outcome, as a struct.
 -- Assumes nothing.
 use Rattle.c_answers.proofs.PullCarried.{pull-carried}
 use borrow.Author.Needs.{needs}
-use Rattle.host.proofs.rows.whelk_pull.Statement.{statement}
-use Rattle.host.proofs.rows.whelk_pull.Tie as tie
+use Rattle.host.proofs.feeds.whelk_pull.Statement.{statement}
+use Rattle.host.proofs.feeds.whelk_pull.Tie as tie
 
 pull-at-requires : tie.Need-pull-at-requires
 pull-at-requires c κs = search needs

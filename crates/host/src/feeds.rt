@@ -4,8 +4,8 @@ ghost use Rattle.c_answers.specs.Exports.{pullForC};
 ghost use mathlib.Core.Path.{_≡_};
 ghost use Rattle.feed.specs.Pull.{pull};
 use c_answers::number_of;
-use c_answers::rows::WhelkRow;
-use c_answers::rows::pull_for_c;
+use c_answers::pulls::WhelkRow;
+use c_answers::pulls::pull_for_c;
 use feed::Counts;
 
 // Rule 4.11: the row of a feed from a place on, and the place behind it.

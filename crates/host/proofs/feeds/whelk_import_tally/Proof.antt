@@ -1,4 +1,4 @@
--- `host::rows::whelk_import_tally` meets its contract: a walk of its MIR, by hand. All that is lent goes on to `import_tally` for good, and
+-- `host::feeds::whelk_import_tally` meets its contract: a walk of its MIR, by hand. All that is lent goes on to `import_tally` for good, and
 -- what that says of the last values is handed back, with the number of the import's end.
 -- Assumes nothing.
 use mathlib.Core.Path.{_≡_, refl, _∙_}
@@ -56,10 +56,10 @@ use Rattle.c_answers.proofs.number_of as num
 use Rattle.c_answers.proofs.number_of.Symbol as num-def
 use Rattle.c_answers.proofs.number_of.Symbol.{name as #number-of}
 use Rattle.c_answers.proofs.number_of.Met as num-thm
-use Rattle.host.proofs.rows.whelk_import_tally.Key.{name as #whelk-import-tally}
-use Rattle.host.proofs.rows.whelk_import_tally as this
-use Rattle.host.proofs.rows.whelk_import_tally.Statement as stated
-use Rattle.host.proofs.rows.whelk_import_tally.Code as code
+use Rattle.host.proofs.feeds.whelk_import_tally.Key.{name as #whelk-import-tally}
+use Rattle.host.proofs.feeds.whelk_import_tally as this
+use Rattle.host.proofs.feeds.whelk_import_tally.Statement as stated
+use Rattle.host.proofs.feeds.whelk_import_tally.Code as code
 
 abbrev Arg : Type 0
 Arg = RefT (List ℕ) × (RefT (List ℕ) × (RefT (List ℕ) × (RefT (List ℕ) × (RefT Counts × Unit {0}))))
