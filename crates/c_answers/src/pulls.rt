@@ -2,10 +2,10 @@
 ghost use Rattle.c_answers.specs.Exports.{rowForC};
 ghost use mathlib.Core.Path.{_≡_};
 ghost use mathlib.Core.Option.{some};
-ghost use Rattle.feed.specs.Reading.{bad, readingOf};
-ghost use Rattle.feed.specs.Pull.{nextReading};
-use feed::NextRow;
-use feed::RowRead;
+ghost use Rattle.rows.specs.Reading.{bad, readingOf};
+ghost use Rattle.rows.specs.Pull.{nextReading};
+use rows::NextRow;
+use rows::RowRead;
 
 // Rule 7.10: what a pull returns to C: 1 if there is a row, the row's number, its key and hop, and the place of the next pull.
 #[repr(C)]

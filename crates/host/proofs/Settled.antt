@@ -5,9 +5,9 @@
 use mathlib.Core.Path.{_≡_, sym, ap, _∙_}
 use mathlib.Core.List.{List}
 use Prim.Native.Nat.{ℕ}
+use Rattle.rows.specs.Pull.{pull}
 use Rattle.feed.specs.declared.Counts.{Counts}
 use Rattle.feed.specs.Import.{ImportLent, import}
-use Rattle.feed.specs.Pull.{pull}
 use Rattle.segment.specs.Pack.{PackOutcome}
 use Rattle.edit.specs.Edit.{Edited}
 use Rattle.c_answers.specs.declared.WhelkCounts.{WhelkCounts}

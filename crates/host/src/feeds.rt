@@ -2,7 +2,7 @@
 ghost use Rattle.host.specs.Exports.{HostTallyGave};
 ghost use Rattle.c_answers.specs.Exports.{pullForC};
 ghost use mathlib.Core.Path.{_≡_};
-ghost use Rattle.feed.specs.Pull.{pull};
+ghost use Rattle.rows.specs.Pull.{pull};
 use c_answers::number_of;
 use c_answers::pulls::WhelkRow;
 use c_answers::pulls::pull_for_c;
@@ -13,7 +13,7 @@ use feed::Counts;
 pub extern "C" fn whelk_pull(feed: &[u8], place: usize) -> WhelkRow
     ensures { λ r. ⌜ r ≡ pullForC (pull (now (feed .entry)) place) ⌝ }
 {
-    let p = feed::pull_at(feed, place);
+    let p = rows::pull_at(feed, place);
     let row = p.row;
     pull_for_c(row, p.next)
 }
