@@ -11,9 +11,9 @@ use lib.ListN.{length}
 use borrow.Author.Tests.{ltb-true, ltb-false}
 use Rattle.ground.specs.Stretch.{stretch}
 use Rattle.ground.proofs.Truth.{decided}
+use Rattle.rows.specs.Rows.{rowsIn}
 use Rattle.feed.specs.declared.Imported.{Imported}
-use Rattle.feed.specs.Rows.{rowsIn}
-use Rattle.feed.specs.RowNumber.{countsOf}
+use Rattle.feed.specs.Counts.{countsOf}
 use Rattle.feed.specs.Import.{ImportLent, import, endNumber, importGave}
 use Rattle.feed.proofs.Outcome.{import-short, import-long}
 use Rattle.c_answers.specs.declared.WhelkCounts.{WhelkCounts}

@@ -3,14 +3,14 @@
 use mathlib.Core.Path.{_≡_, ap, _∙_}
 use mathlib.Core.Option.{some}
 use Prim.Native.Nat.{ℕ}
-use Rattle.feed.specs.declared.RowRead.{RowRead}
-use Rattle.feed.specs.declared.RowRead.the-variants as R
-use Rattle.feed.specs.declared.NextRow.{NextRow}
-use Rattle.feed.specs.declared.NextRow.the-variants as N
-use Rattle.feed.specs.declared.RowPulled.{RowPulled}
-use Rattle.feed.specs.Reading.{bad, readingOf}
-use Rattle.feed.specs.Pull.{Pulled, nextReading, pullGave}
-use Rattle.c_answers.specs.declared.rows.WhelkRow.{WhelkRow}
+use Rattle.rows.specs.declared.RowRead.{RowRead}
+use Rattle.rows.specs.declared.RowRead.the-variants as R
+use Rattle.rows.specs.declared.NextRow.{NextRow}
+use Rattle.rows.specs.declared.NextRow.the-variants as N
+use Rattle.rows.specs.declared.RowPulled.{RowPulled}
+use Rattle.rows.specs.Reading.{bad, readingOf}
+use Rattle.rows.specs.Pull.{Pulled, nextReading, pullGave}
+use Rattle.c_answers.specs.declared.pulls.WhelkRow.{WhelkRow}
 use Rattle.c_answers.specs.Exports.{rowForC, pullForC}
 
 module _ (r : RowRead) {next : ℕ} where

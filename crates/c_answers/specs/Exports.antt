@@ -8,11 +8,12 @@ use Prim.Native.Nat.{ℕ, _+_, _*_, _/_, _%_}
 use lib.Dec.{eqb}
 use Rattle.ground.specs.Numbers.{done}
 use Rattle.routes.specs.Lookup.{LookupOutcome}
+use Rattle.rows.specs.RowNumber.{rowTaken, rowShape, rowRange, rowHostBits, rowReplaced, rowNoRoom, rowZeros}
+use Rattle.rows.specs.Reading.{Reading, good, bad}
+use Rattle.rows.specs.Pull.{Pulled}
 use Rattle.feed.specs.declared.Counts.{Counts}
-use Rattle.feed.specs.RowNumber.{rowTaken, rowShape, rowRange, rowHostBits, rowReplaced, rowNoRoom, rowZeros, rowsWith}
+use Rattle.feed.specs.Counts.{rowsWith}
 use Rattle.feed.specs.Import.{ImportOutcome}
-use Rattle.feed.specs.Reading.{Reading, good, bad}
-use Rattle.feed.specs.Pull.{Pulled}
 use Rattle.runs.specs.Build.{BuildOutcome}
 use Rattle.runs.specs.Lookup.{RunLookupOutcome}
 use Rattle.segment.specs.Pack.{PackOutcome}
@@ -24,7 +25,7 @@ use Rattle.c_answers.specs.declared.WhelkCounts.{WhelkCounts}
 use Rattle.c_answers.specs.declared.WhelkPacked.{WhelkPacked}
 use Rattle.c_answers.specs.declared.edits.WhelkEdit.{WhelkEdit}
 use Rattle.c_answers.specs.declared.reasons.WhelkReason.{WhelkReason}
-use Rattle.c_answers.specs.declared.rows.WhelkRow.{WhelkRow}
+use Rattle.c_answers.specs.declared.pulls.WhelkRow.{WhelkRow}
 
 -- Rule 4.5: the eight counts that C gets, all rows and then one for each row number.
 abbrev pub countsIn : WhelkCounts → Counts

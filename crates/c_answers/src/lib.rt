@@ -1,8 +1,8 @@
 // Answers as C gets them: the one number or the plain struct that stands for an answer of the library (7.10, 18.6). It stands on the crates
 // whose answers they are and is for `host` alone, which makes the calls and leaves to this crate what becomes of their answers.
 pub mod edits;
+pub mod pulls;
 pub mod reasons;
-pub mod rows;
 
 ghost use Rattle.c_answers.specs.Exports.{countsForC, lookupForC, probedGaveC, probedForC, addressBytes, builtForC};
 ghost use Rattle.c_answers.specs.Exports.{hostPackGave, writtenForC, partedForC};

@@ -20,12 +20,13 @@ use Rattle.ground.proofs.Numbers.{outcome-refused}
 use Rattle.routes.specs.declared.Looked.{Looked}
 use Rattle.routes.specs.Row.{ListLent, listRoom}
 use Rattle.routes.specs.Lookup.{lookedUp, LookupOutcome, lookupGave, plainLookup, lookupChecks, halfLookup, halfChecks}
+use Rattle.rows.specs.Rows.{rowsIn}
+use Rattle.rows.specs.RowNumber.{rowTaken, rowShape, rowZeros, rowRange, rowHostBits, rowReplaced, rowNoRoom}
 use Rattle.feed.specs.declared.Counts.{Counts}
 use Rattle.feed.specs.declared.Imported.{Imported}
 use Rattle.feed.specs.declared.ImportEnd.{ImportEnd}
 use Rattle.feed.specs.declared.ImportEnd.the-variants.{Done, ReportShort}
-use Rattle.feed.specs.Rows.{rowsIn}
-use Rattle.feed.specs.RowNumber.{rowsWith, rowTaken, rowShape, rowZeros, rowRange, rowHostBits, rowReplaced, rowNoRoom}
+use Rattle.feed.specs.Counts.{rowsWith}
 use Rattle.feed.specs.Import.{ImportLent, ImportOutcome, importGave, import, importChecks, importRefused, rowNumbers, endNumber, TallyGave}
 use Rattle.feed.proofs.Promise.{rows-are-taken-replaced-refused, rows-are-all-rows, report-has-numbers}
 use Rattle.feed.proofs.TallyPromise.{tally-is-counts, tally-untouched}

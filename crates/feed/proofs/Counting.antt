@@ -14,8 +14,9 @@ use lib.Seq.{getD-set-same, getD-set-other}
 use borrow.Author.Tests.{eqb-true, eqb-false, eq-eqb, ne-eqb}
 use Rattle.ground.specs.Stretch.{stretch}
 use Rattle.ground.proofs.Truth.{decided, and-left, and-right}
+use Rattle.rows.specs.RowNumber.{NamedRow, rowNames}
 use Rattle.feed.specs.declared.Counts.{Counts}
-use Rattle.feed.specs.RowNumber.{NamedRow, rowNames, countIf, howMany, countsOf, rowsWith, rowsNamed}
+use Rattle.feed.specs.Counts.{countIf, howMany, countsOf, rowsWith, rowsNamed}
 use Rattle.feed.specs.Inside.Counting.{CountsFit, countedIn}
 
 -- all numbers of a list are in the table of names

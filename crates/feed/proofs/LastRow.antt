@@ -15,8 +15,8 @@ use Rattle.ground.proofs.Truth.{decided}
 use Rattle.routes.specs.Row.{Row}
 use Rattle.routes.specs.Change.{announced}
 use Rattle.routes.proofs.Change.{Order, before, same, after, order, announced-before, announced-at, announced-after}
-use Rattle.feed.specs.Rows.{rowsIn}
-use Rattle.feed.specs.Reading.{Reading, good, bad, readRow}
+use Rattle.rows.specs.Rows.{rowsIn}
+use Rattle.rows.specs.Reading.{Reading, good, bad, readRow}
 use Rattle.feed.specs.Import.{rowNumber, enters, listAfter, rowNumbersFrom, listFrom, rowNumbers, importedList}
 use Rattle.feed.specs.LastRow.{hopFor, lastHop, hopListed}
 

@@ -14,8 +14,8 @@ use Rattle.ground.specs.Numbers.{firstFault, done, reportShort}
 use Rattle.ground.proofs.Numbers.{fault-here, fault-later, outcome-done, outcome-refused}
 use Rattle.ground.proofs.Truth.{decided}
 use Rattle.routes.specs.Row.{listRoom}
+use Rattle.rows.specs.Rows.{rowsIn}
 use Rattle.feed.specs.declared.Counts.{Counts}
-use Rattle.feed.specs.Rows.{rowsIn}
 use Rattle.feed.specs.Import.{ImportLent, ImportOutcome, importChecks, importRefused, importAccepted, import, importTally}
 
 module _ (feed : List ℕ) (l : ImportLent) where

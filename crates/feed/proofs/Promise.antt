@@ -21,12 +21,13 @@ use Rattle.routes.specs.WellFormed.{wellFormed, goodRows}
 use Rattle.routes.specs.Change.{listed}
 use Rattle.routes.proofs.WellFormed.{parts-good}
 use Rattle.routes.proofs.Columns.{rows-of-columns}
+use Rattle.rows.specs.Rows.{rowsIn}
+use Rattle.rows.specs.RowNumber.{rowTaken, rowShape, rowZeros, rowRange, rowHostBits, rowReplaced, rowNoRoom}
+use Rattle.rows.specs.RowNumber.{refusals}
 use Rattle.feed.specs.declared.Counts.{Counts}
 use Rattle.feed.specs.declared.Imported.{Imported}
 use Rattle.feed.specs.declared.ImportEnd.the-variants.{Done, ReportShort}
-use Rattle.feed.specs.Rows.{rowsIn}
-use Rattle.feed.specs.RowNumber.{rowTaken, rowShape, rowZeros, rowRange, rowHostBits, rowReplaced, rowNoRoom}
-use Rattle.feed.specs.RowNumber.{refusals, countsOf, noCounts, rowsWith, rowsNamed}
+use Rattle.feed.specs.Counts.{countsOf, noCounts, rowsWith, rowsNamed}
 use Rattle.feed.specs.Import.{rowNumbers, importedList, ImportLent, importRefused, importAccepted, import, endNumber, importGave}
 use Rattle.feed.specs.LastRow.{lastHop, hopListed}
 use Rattle.ground.proofs.Slots.{length-written}

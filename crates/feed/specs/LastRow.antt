@@ -7,7 +7,7 @@ use mathlib.Core.Option.{Option, none, some, orElse}
 use Prim.Native.Nat.{ℕ}
 use lib.Dec.{eqb}
 use Rattle.routes.specs.Row.{Row}
-use Rattle.feed.specs.Reading.{Reading, good, bad, readRow}
+use Rattle.rows.specs.Reading.{Reading, good, bad, readRow}
 use Rattle.feed.specs.Import.{enters}
 
 -- the row's hop, if it is a good row with prefix k

@@ -1,7 +1,4 @@
-pub mod Rows
-pub mod RowNumber
-pub mod Reading
+pub mod Counts
 pub mod Import
 pub mod LastRow
-pub mod Pull
 pub mod Inside

@@ -18,12 +18,12 @@ use Rattle.routes.specs.WellFormed.{prefixes, hopsGiven, ascending, halfRows, g
 use Rattle.routes.specs.Plain.{matching, longer, longest, plain}
 use Rattle.routes.specs.Change.{announced, withdrawn}
 use Rattle.routes.specs.Lookup.{lookupChecks, plainLookup, halfChecks, halfLookup}
-use Rattle.feed.specs.Rows.{rowsIn, rowLength}
-use Rattle.feed.specs.Reading.{digits, afterDigits, fieldsOf, hasZeroInFront, valueFrom, inPlaces, valuesOf, outOfRange, hasHostBits, numbersFault, judgedNumbers, judged, readRow}
-use Rattle.feed.specs.RowNumber.{howMany, countsOf}
+use Rattle.rows.specs.Rows.{rowsIn, rowLength}
+use Rattle.rows.specs.Reading.{digits, afterDigits, fieldsOf, hasZeroInFront, valueFrom, inPlaces, valuesOf, outOfRange, hasHostBits, numbersFault, judgedNumbers, judged, readRow}
+use Rattle.rows.specs.Pull.{pullOf, pull, pullsFrom, pulls}
+use Rattle.feed.specs.Counts.{howMany, countsOf}
 use Rattle.feed.specs.Import.{rowNumber, listAfter, rowNumbersFrom, rowNumbers, listFrom, importedList, importChecks, import, importTally}
 use Rattle.feed.specs.LastRow.{hopFor, lastHop, hopListed}
-use Rattle.feed.specs.Pull.{pullOf, pull, pullsFrom, pulls}
 use Rattle.runs.specs.Build.{slotsLent, runRoom, buildChecks, buildOf, buildHalf}
 use Rattle.runs.specs.Pair.{pairIll, pairChecks}
 use Rattle.runs.proofs.TableOutcomes.{build-fits}

@@ -14,13 +14,13 @@ use Rattle.routes.specs.WellFormed.{wellFormed}
 use Rattle.routes.specs.Plain.{plain}
 use Rattle.routes.specs.Change.{announced, withdrawn}
 use Rattle.routes.specs.Lookup.{plainLookup, halfLookup}
-use Rattle.feed.specs.Rows.{rowsIn, rowLength}
-use Rattle.feed.specs.Reading.{Reading, good, bad}
+use Rattle.rows.specs.Rows.{rowsIn, rowLength}
+use Rattle.rows.specs.Reading.{Reading, good, bad}
+use Rattle.rows.specs.Pull.{pull, pulls}
 use Rattle.feed.specs.declared.Counts.{Counts}
-use Rattle.feed.specs.RowNumber.{countsOf}
+use Rattle.feed.specs.Counts.{countsOf}
 use Rattle.feed.specs.Import.{rowNumbers, importedList, ImportLent, import, importTally}
 use Rattle.feed.specs.LastRow.{lastHop, hopListed}
-use Rattle.feed.specs.Pull.{pull, pulls}
 use Rattle.runs.specs.Table.{runsLent}
 use Rattle.runs.specs.Build.{slotsLent, build, buildHalf}
 use Rattle.runs.specs.Pair.{Pair, pair}

@@ -5,16 +5,16 @@
 use mathlib.Core.Path.{_≡_, sym, ap, _∙_}
 use mathlib.Core.List.{List}
 use Prim.Native.Nat.{ℕ}
+use Rattle.rows.specs.Pull.{pull}
 use Rattle.feed.specs.declared.Counts.{Counts}
 use Rattle.feed.specs.Import.{ImportLent, import}
-use Rattle.feed.specs.Pull.{pull}
 use Rattle.segment.specs.Pack.{PackOutcome}
 use Rattle.edit.specs.Edit.{Edited}
 use Rattle.c_answers.specs.declared.WhelkCounts.{WhelkCounts}
 use Rattle.c_answers.specs.declared.WhelkPacked.{WhelkPacked}
 use Rattle.c_answers.specs.declared.edits.WhelkEdit.{WhelkEdit}
 use Rattle.c_answers.specs.declared.reasons.WhelkReason.{WhelkReason}
-use Rattle.c_answers.specs.declared.rows.WhelkRow.{WhelkRow}
+use Rattle.c_answers.specs.declared.pulls.WhelkRow.{WhelkRow}
 use Rattle.c_answers.specs.Exports.{pullForC, ProbedForC, probedGaveC, WhyForC, whyGaveC, countsForC, hostImportGave, hostPackGave, hostEditGave}
 use Rattle.c_answers.specs.Exports.{BuildForC, buildGaveC, WriteForC, writeGaveC, SplitForC, splitGaveC}
 use Rattle.host.specs.Exports.{HostTallyGave, HeldForC, heldGaveC}

@@ -2,8 +2,8 @@
 // 7.9 and 7.10; include/whelkhollow.h declares what is exported here.
 pub mod checks;
 pub mod edits;
+pub mod feeds;
 pub mod reasons;
-pub mod rows;
 
 ghost use Rattle.host.specs.Exports.{heldGaveC, heldForC};
 ghost use mathlib.Core.Path.{_≡_};

@@ -17,11 +17,11 @@ use Rattle.routes.specs.Row.{Row, listLent, rowsOf, listRoom}
 use Rattle.routes.specs.Plain.{plain}
 use Rattle.routes.specs.WellFormed.{wellFormed, formed}
 use Rattle.routes.proofs.Columns.{length-rows}
+use Rattle.rows.proofs.Splitting.{rows-at-most}
 use Rattle.feed.specs.declared.Imported.{Imported}
 use Rattle.feed.specs.declared.ImportEnd.{ImportEnd}
 use Rattle.feed.specs.declared.ImportEnd.the-variants.{Done, ReportShort}
 use Rattle.feed.specs.Import.{ImportLent, importAccepted, import, endNumber, importGave}
-use Rattle.feed.proofs.Splitting.{rows-at-most}
 use Rattle.feed.proofs.Outcome.{import-long}
 use Rattle.feed.proofs.Promise.{left-is-imported, left-well-formed}
 use Rattle.runs.proofs.Built as built-as

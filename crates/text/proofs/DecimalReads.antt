@@ -12,8 +12,8 @@ use lib.ListN.{length}
 use lib.Dec.{ltb}
 use borrow.Author.Tests.{ltb-true, ltb-false, le-leb, ne-eqb}
 use Rattle.ground.proofs.Truth.{decided, and-both, not-true}
-use Rattle.feed.specs.Rows.{digit0}
-use Rattle.feed.specs.Reading.{isDigit, digits, afterDigits, begins, zeroInFront, valueFrom}
+use Rattle.rows.specs.Rows.{digit0}
+use Rattle.rows.specs.Reading.{isDigit, digits, afterDigits, begins, zeroInFront, valueFrom}
 use Rattle.text.specs.Text.{decimal}
 use Rattle.text.proofs.Decimal.{decimal-small, decimal-step, one-digit}
 

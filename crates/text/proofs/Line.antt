@@ -14,9 +14,9 @@ use Rattle.ground.proofs.Truth.{and-both}
 use Rattle.cidr.specs.Prefix.{dotted, network, lengthOf, isPrefix}
 use Rattle.cidr.proofs.Prefix.{Prefix, prefix-parts, key-split}
 use Rattle.routes.specs.Row.{Row}
-use Rattle.feed.specs.Rows.{LF, dot, slash, space}
-use Rattle.feed.specs.Reading.{isDigit, digits, afterDigits, isNumber, begins, Field, field, form, before, fieldsOf}
-use Rattle.feed.specs.Reading.{hasZeroInFront, valueFrom, inPlaces, valuesOf, outOfRange, hasHostBits, good, numbersFault, judgedNumbers, judged, readRow}
+use Rattle.rows.specs.Rows.{LF, dot, slash, space}
+use Rattle.rows.specs.Reading.{isDigit, digits, afterDigits, isNumber, begins, Field, field, form, before, fieldsOf}
+use Rattle.rows.specs.Reading.{hasZeroInFront, valueFrom, inPlaces, valuesOf, outOfRange, hasHostBits, good, numbersFault, judgedNumbers, judged, readRow}
 use Rattle.text.specs.Text.{decimal, dottedText, rowText}
 use Rattle.text.proofs.Decimal.{one-digit, digits-at-most}
 use Rattle.text.proofs.DecimalReads.{decimal-read, decimal-after, decimal-value, decimal-no-zero}

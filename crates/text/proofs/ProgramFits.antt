@@ -17,11 +17,11 @@ use Rattle.routes.specs.Row.{Row}
 use Rattle.routes.specs.Plain.{plain}
 use Rattle.routes.proofs.Row.{Has}
 use Rattle.routes.proofs.Plain.{plain-at-most}
+use Rattle.rows.proofs.Splitting.{rows-at-most}
 use Rattle.feed.specs.declared.Counts.{Counts}
-use Rattle.feed.specs.RowNumber.{countsOf, rowsWith}
+use Rattle.feed.specs.Counts.{countsOf, rowsWith}
 use Rattle.feed.specs.Import.{rowNumbers, importedList}
 use Rattle.feed.proofs.Counting.{counts-fit}
-use Rattle.feed.proofs.Splitting.{rows-at-most}
 use Rattle.feed.proofs.Importing.{numbers-of-rows, imported-in-room, imported-hop-fits}
 use Rattle.runs.specs.Table.{runStarts, runHops, startsOf, runHopsOf}
 use Rattle.runs.proofs.Table.{table-of, runs-at-most}

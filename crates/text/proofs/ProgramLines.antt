@@ -8,8 +8,9 @@ use native.Mathlib.Numerals.{add-one}
 use native.Mathlib.Omega.{arith}
 use lib.ListN.{length, getD, take, set, length-append}
 use lib.Seq.{take-suc, length-take-le}
+use Rattle.rows.specs.RowNumber.{NamedRow}
 use Rattle.feed.specs.declared.Counts.{Counts}
-use Rattle.feed.specs.RowNumber.{NamedRow, rowsWith}
+use Rattle.feed.specs.Counts.{rowsWith}
 use Rattle.text.specs.Text.{dottedText}
 use Rattle.text.specs.Program.{bytes, lineOf, nameLines, runLines}
 use Rattle.text.specs.Inside.Putting.{numberText, Fits, Put}

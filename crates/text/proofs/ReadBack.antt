@@ -15,8 +15,8 @@ use Rattle.routes.specs.WellFormed.{ascending, goodRows}
 use Rattle.routes.proofs.Row.{Has}
 use Rattle.routes.proofs.WellFormed.{good-parts}
 use Rattle.routes.proofs.Change.{unlisted-last, announced-last}
-use Rattle.feed.specs.RowNumber.{rowTaken}
-use Rattle.feed.specs.Reading.{good, readRow}
+use Rattle.rows.specs.RowNumber.{rowTaken}
+use Rattle.rows.specs.Reading.{good, readRow}
 use Rattle.feed.specs.Import.{rowNumber, listAfter, rowNumbersFrom, listFrom, rowNumbers, importedList}
 use Rattle.text.specs.Text.{textOf}
 use Rattle.text.proofs.Line.{line, line-read}

@@ -18,10 +18,11 @@ use Rattle.ground.proofs.Slots.{take-written}
 use Rattle.routes.specs.Row.{rowsOf, listRoom, ListLent, rowsLent}
 use Rattle.routes.specs.WellFormed.{goodRows, wellFormed}
 use Rattle.routes.proofs.Columns.{length-rows}
+use Rattle.rows.specs.Rows.{rowsIn}
+use Rattle.rows.specs.RowNumber.{rowTaken}
 use Rattle.feed.specs.declared.Imported.{Imported}
 use Rattle.feed.specs.declared.ImportEnd.the-variants.{Done}
-use Rattle.feed.specs.Rows.{rowsIn}
-use Rattle.feed.specs.RowNumber.{rowTaken, countsOf, rowsWith}
+use Rattle.feed.specs.Counts.{countsOf, rowsWith}
 use Rattle.feed.specs.Import.{rowNumbers, importedList, ImportLent, import, importGave}
 use Rattle.feed.proofs.Importing.{imported-length}
 use Rattle.feed.proofs.Outcome.{import-long}

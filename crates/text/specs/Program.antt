@@ -9,9 +9,10 @@ use Prim.Native.String.{String, [] as no-text, _∷_ as _then_}
 use lib.ListN.{length}
 use lib.Dec.{ltb}
 use Rattle.ground.specs.Slots.{written}
-use Rattle.feed.specs.Rows.{LF, space}
+use Rattle.rows.specs.Rows.{LF, space}
+use Rattle.rows.specs.RowNumber.{NamedRow, rowNames}
 use Rattle.feed.specs.declared.Counts.{Counts}
-use Rattle.feed.specs.RowNumber.{NamedRow, rowNames, countsOf, rowsWith}
+use Rattle.feed.specs.Counts.{countsOf, rowsWith}
 use Rattle.feed.specs.Import.{rowNumbers, importedList}
 use Rattle.runs.specs.Table.{runStarts, runHops}
 use Rattle.text.specs.Text.{decimal, dottedText}

@@ -11,7 +11,7 @@ use Rattle.ground.specs.Slots.{written}
 use Rattle.cidr.specs.Prefix.{network, lengthOf}
 use Rattle.routes.specs.Row.{Row, ListLent, rowsLent}
 use Rattle.routes.specs.WellFormed.{wellFormed}
-use Rattle.feed.specs.Rows.{LF, dot, slash, space, digit0}
+use Rattle.rows.specs.Rows.{LF, dot, slash, space, digit0}
 use Rattle.text.specs.declared.Written.{Written}
 use Rattle.text.specs.declared.Written.the-variants.{Text, IllFormed, NoRoom}
 

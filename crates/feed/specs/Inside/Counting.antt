@@ -3,8 +3,9 @@
 use mathlib.Core.Path.{_≡_}
 use Prim.Native.Nat.{ℕ, _+_, _^_, _≤_, _<_}
 use lib.ListN.{length, set}
+use Rattle.rows.specs.RowNumber.{rowNames}
 use Rattle.feed.specs.declared.Counts.{Counts}
-use Rattle.feed.specs.RowNumber.{rowNames, rowsWith}
+use Rattle.feed.specs.Counts.{rowsWith}
 
 -- counts to which a row of this number can be added
 pub record CountsFit (c : Counts) (number : ℕ) : Type 0 where

@@ -6,8 +6,9 @@ use mathlib.Core.List.{List, _++_}
 use Prim.Native.Nat.{ℕ}
 use Rattle.routes.specs.Row.{Row, rowsOf}
 use Rattle.routes.specs.WellFormed.{wellFormed}
+use Rattle.rows.specs.RowNumber.{rowTaken}
 use Rattle.feed.specs.declared.Counts.{Counts}
-use Rattle.feed.specs.RowNumber.{rowTaken, countsOf, rowsWith}
+use Rattle.feed.specs.Counts.{countsOf, rowsWith}
 use Rattle.feed.specs.Import.{rowNumbers, importedList}
 use Rattle.runs.specs.Table.{runStarts, runHops}
 use Rattle.text.specs.Program.{programRoom, countLines, runLines}

@@ -2,7 +2,7 @@
 -- room, since the buffer has 45,180 bytes.
 -- Assumes nothing.
 use native.Mathlib.Omega.{arith}
-use Rattle.feed.specs.RowNumber.{countsOf}
+use Rattle.feed.specs.Counts.{countsOf}
 use Rattle.feed.specs.Import.{rowNumbers, importedList}
 use Rattle.text.specs.Program.{programRoom, countLines}
 use Rattle.text.specs.Inside.Putting.{Fits, Put}

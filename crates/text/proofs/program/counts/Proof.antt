@@ -1,7 +1,7 @@
 -- `text::program::counts` meets its contract: the line of all rows, that of the taken ones, and those of the other row numbers.
 -- Assumes nothing.
 use native.Mathlib.Omega.{arith}
-use Rattle.feed.specs.RowNumber.{named, rowTaken, otherNames, rowNames}
+use Rattle.rows.specs.RowNumber.{named, rowTaken, otherNames, rowNames}
 use Rattle.text.specs.Program.{nameLines, countLines}
 use Rattle.text.specs.Inside.Putting.{Fits}
 use Rattle.text.proofs.Putting.{first-fits, rest-fits, put-then}

@@ -2,7 +2,7 @@
 -- Assumes nothing.
 use mathlib.Core.List.{List, [], _∷_}
 use native.Mathlib.Omega.{arith}
-use Rattle.feed.specs.RowNumber.{NamedRow, named, rowShape, rowZeros, rowRange, rowHostBits, rowReplaced, rowNoRoom}
+use Rattle.rows.specs.RowNumber.{NamedRow, named, rowShape, rowZeros, rowRange, rowHostBits, rowReplaced, rowNoRoom}
 use Rattle.text.specs.Program.{nameLines}
 use Rattle.text.specs.Inside.Putting.{Fits}
 use Rattle.text.proofs.ProgramLines.{first-name-fits, rest-names-fit, put-names, put-no-names}
