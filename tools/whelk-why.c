@@ -90,14 +90,18 @@ static int say_why(const struct feed *feed, const size_t *lines, size_t runs, co
     }
     print_address(address);
     if (why.listed == 0) {
-        printf(" has no hop: no listed prefix holds it. From it up to ");
+        printf(" has no hop: no listed prefix holds it. From ");
+        print_address(address);
+        printf(" up to ");
         print_address(last);
         printf(" no address has one.\n");
         return 1;
     }
     size_t shown = (size_t)((uint8_t *)memchr(text + prefix, ' ', length) - (text + prefix));
-    printf(" goes to hop %u: %.*s (line %zu) is the longest listed prefix that holds it. From it up to ", whelk_lookup_hop(found), (int)shown,
+    printf(" goes to hop %u: %.*s (line %zu) is the longest listed prefix that holds it. From ", whelk_lookup_hop(found), (int)shown,
            (const char *)text + prefix, lines[why.place]);
+    print_address(address);
+    printf(" up to ");
     print_address(last);
     printf(" every address goes to hop %u.\n", whelk_lookup_hop(found));
     return 0;

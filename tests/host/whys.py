@@ -30,11 +30,11 @@ def said(routes, lines, address):
     text = "".join(f"-:{lines[route[:2]]}: {list_text([route])}" for route in rows)
     until = dotted(holds_until(routes, address))
     if not rows:
-        return f"{dotted(address)} has no hop: no listed prefix holds it. From it up to {until} no address has one.\n"
+        return f"{dotted(address)} has no hop: no listed prefix holds it. From {dotted(address)} up to {until} no address has one.\n"
     network, length, hop = rows[-1]
     return (
         f"{text}{dotted(address)} goes to hop {hop}: {dotted(network)}/{length} (line {lines[network, length]}) is the longest listed prefix that "
-        f"holds it. From it up to {until} every address goes to hop {hop}.\n"
+        f"holds it. From {dotted(address)} up to {until} every address goes to hop {hop}.\n"
     )
 
 

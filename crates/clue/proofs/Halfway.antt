@@ -1,12 +1,10 @@
--- Halving over the keys of entries, as the quick form's code takes it, with low and how far apart low and high are. It ends below n. Where
--- keys ascend and one of them is looked for, it ends at that one's place.
+-- Halving over the keys of entries, as the quick form's code takes it. It ends below n. Where keys ascend and one of them is looked for, it ends at that one's place.
 -- Assumes nothing.
 use mathlib.Core.Path.{_≡_, refl, sym, ap, _∙_}
 use mathlib.Core.Logic.{⊎-elim}
 use mathlib.Core.Bool.{Bool, true, false, cond}
 use mathlib.Core.List.{List}
 use Prim.Native.Nat.{ℕ, zero, suc, _+_, _-_, _/_, _≤_, _<_}
-use native.Mathlib.Nat.{zero-add}
 use native.Mathlib.Omega.{arith}
 use lib.ListN.{length, getD}
 use lib.Dec.{leb, ltb}
@@ -32,69 +30,54 @@ module _ (at : ℕ → ℕ) (k : ℕ) where
   unfolding halves
   down turns low high f l = rw (lt-leb (high - low) 1 f, halves, lt-leb (at ((low + high) / 2)) k l)
 
-closer : (above : Bool) {apart apart′ : ℕ} → 1 < apart → apart′ ≡ cond above (apart / 2) (apart - apart / 2) → apart′ < apart
-closer true far e = omega arith
-closer false far e = omega arith
-
 -- what the code keeps true: from here on halving ends where it ends
-pub record Halfway (at : ℕ → ℕ) (n k low apart : ℕ) : Type 0 where
-  pub some : 0 < apart
-  pub within : low + apart ≤ n
+pub record Halfway (at : ℕ → ℕ) (n k low high : ℕ) : Type 0 where
+  pub some : low < high
+  pub within : high ≤ n
   pub turns : ℕ
-  pub enough : apart ≤ suc turns
-  pub ends : halving at n k .low ≡ halves turns at k low (low + apart) .low
+  pub enough : high - low ≤ suc turns
+  pub ends : halving at n k .low ≡ halves turns at k low high .low
 
 pub halfway-start : (at : ℕ → ℕ) (n k : ℕ) → 0 < n → Halfway at n k 0 n
 unfolding halving
-halfway-start at n k some = record { some = some; within = omega arith; turns = n; enough = omega arith; ends = rw zero-add }
+halfway-start at n k some = record { some = some; within = omega arith; turns = n; enough = omega arith; ends = refl }
 
-module _ {at : ℕ → ℕ} {n k low apart : ℕ} (h : Halfway at n k low apart) where
-  pub halfway-end : apart ≤ 1 → low ≡ halving at n k .low
-  halfway-end l = sym (h .ends ∙ near at k (h .turns) low (low + apart) (omega arith))
+module _ {at : ℕ → ℕ} {n k low high : ℕ} (h : Halfway at n k low high) where
+  pub halfway-end : high - low ≤ 1 → low ≡ halving at n k .low
+  halfway-end l = sym (h .ends ∙ near at k (h .turns) low high l)
 
-  middle : (low + (low + apart)) / 2 ≡ low + apart / 2
-  middle = omega arith
-
-  high : low + apart / 2 + (apart - apart / 2) ≡ low + apart
-  high = omega arith
-
-  module _ (far : 1 < apart) where
+  module _ (far : 1 < high - low) where
     fewer : h .turns ≡ suc (h .turns - 1)
     fewer = omega (arith, h .enough)
 
-    below : k < at (low + apart / 2) → Halfway at n k low (apart / 2)
+    turned : halving at n k .low ≡ halves (suc (h .turns - 1)) at k low high .low
+    turned = h .ends ∙ ap (λ t. halves t at k low high .low) fewer
+
+    below : k < at ((low + high) / 2) → Halfway at n k low ((low + high) / 2)
     below l = record {
       some = omega arith;
       within = omega (arith, h .within);
       turns = h .turns - 1;
       enough = omega (arith, h .enough);
-      ends =
-          h .ends ∙ ap (λ t. halves t at k low (low + apart) .low) fewer
-          ∙ down at k (h .turns - 1) low (low + apart) (omega arith) (rw middle l) ∙ ap (λ m. halves (h .turns - 1) at k low m .low) middle;
+      ends = turned ∙ down at k (h .turns - 1) low high far l;
     }
 
-    above : at (low + apart / 2) ≤ k → Halfway at n k (low + apart / 2) (apart - apart / 2)
+    above : at ((low + high) / 2) ≤ k → Halfway at n k ((low + high) / 2) high
     above l = record {
       some = omega arith;
-      within = omega (arith, h .within);
+      within = h .within;
       turns = h .turns - 1;
       enough = omega (arith, h .enough);
-      ends =
-          h .ends ∙ ap (λ t. halves t at k low (low + apart) .low) fewer
-          ∙ up at k (h .turns - 1) low (low + apart) (omega arith) (rw middle l) ∙ rw (middle, high);
+      ends = turned ∙ up at k (h .turns - 1) low high far l;
     }
 
-    pub halfway-closer : {apart′ : ℕ} → apart′ ≡ cond (ltb k (at (low + apart / 2))) (apart / 2) (apart - apart / 2) → apart′ < apart
-    halfway-closer e = closer (ltb k (at (low + apart / 2))) far e
-
-    pub halfway-next : {low′ apart′ : ℕ} → low′ ≡ cond (ltb k (at (low + apart / 2))) low (low + apart / 2)
-        → apart′ ≡ cond (ltb k (at (low + apart / 2))) (apart / 2) (apart - apart / 2) → Halfway at n k low′ apart′
-    halfway-next {low′} {apart′} e e′ = go (ltb k (at (low + apart / 2))) refl e e′
+    pub halfway-next : {place low′ high′ : ℕ} → place ≡ (low + high) / 2
+        → (low′ ≡ cond (ltb k (at place)) low place) × (high′ ≡ cond (ltb k (at place)) place high) → Halfway at n k low′ high′
+    halfway-next {place} {low′} {high′} mid w = go (ltb k (at place)) refl (w .0) (w .1)
       where
-        go : (b : Bool) → ltb k (at (low + apart / 2)) ≡ b → low′ ≡ cond b low (low + apart / 2)
-            → apart′ ≡ cond b (apart / 2) (apart - apart / 2) → Halfway at n k low′ apart′
-        go true q e e′ = rw (e, e′) (below (ltb-true k (at (low + apart / 2)) q))
-        go false q e e′ = rw (e, e′) (above (ltb-false k (at (low + apart / 2)) q))
+        go : (b : Bool) → ltb k (at place) ≡ b → low′ ≡ cond b low place → high′ ≡ cond b place high → Halfway at n k low′ high′
+        go true q e e′ = rw (e, e′, mid) (below (rw mid at (ltb-true k (at place) q)))
+        go false q e e′ = rw (e, e′, mid) (above (rw mid at (ltb-false k (at place) q)))
 
 -- halving ends below n
 halves-below : (at : ℕ → ℕ) (k turns low high : ℕ) → low < high → halves turns at k low high .low < high

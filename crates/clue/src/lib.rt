@@ -15,7 +15,7 @@ ghost use Rattle.clue.specs.Entries.{entriesLent, itsEntries};
 ghost use Rattle.clue.specs.Build.{tooLong, entriesGave, buildEntries};
 ghost use Rattle.clue.specs.Lookup.{hintGave, hintLookup};
 ghost use Rattle.clue.specs.Quick.{quickGave, quickLookup};
-use halving::Bracket;
+use halving::Span;
 use routes::Place;
 
 // What a build of entries gives: how many there are, 15, 11, or 13.
@@ -164,25 +164,37 @@ pub fn lookup(
     Hinted::Searched(entry::hop_around(rkeys, rhops, a as u64, 32))
 }
 
-// Rule 7.3: the place where halving over the first n keys ends. How many probes it made isn't asked.
-fn halve(n: usize, ekeys: &[u64], k: u64) -> usize
+// Where halving over keys ends, and the key there.
+struct Halted {
+    place: usize,
+    key: u64,
+}
+
+// Rule 7.3: where halving over the first n keys ends. The key at low is kept beside it, so that it needn't be read again. How many probes it
+// made isn't asked.
+fn halve(n: usize, ekeys: &[u64], k: u64) -> Halted
     requires { ⌜ (0 < n) × (n ≤ length (now ekeys)) ⌝ }
-    ensures { λ r. ⌜ (r ≡ halving (λ i. getD (now (ekeys .entry)) i 0) n k .low) × (r < n) ⌝ }
+    ensures { λ r.
+        ⌜ (r .place ≡ halving (λ i. getD (now (ekeys .entry)) i 0) n k .low) × (r .place < n)
+        × (r .key ≡ getD (now (ekeys .entry)) (r .place) 0) ⌝ }
 {
-    let turns = halving::turns(n);
-    let mut s = Bracket {
-        place: n / 2,
-        apart: n,
-    };
-    let mut made = 0;
-    while made < turns {
-        let place = s.place;
-        s = halving::narrow(s, k < ekeys[place]);
-        made += 1;
+    let mut s = Span { low: 0, high: n };
+    let mut key = ekeys[0];
+    let mut left = halving::turns(n);
+    while 0 < left {
+        let place = halving::middle(s);
+        let next = ekeys[place];
+        s = halving::turn(s, place, k < next);
+        key = halving::pick64(k < next, key, next);
+        left -= 1;
     }
-    let place = s.place;
-    let found = halving::end(s, 0, k < ekeys[place]);
-    found.low
+    let place = s.high - 1;
+    let next = ekeys[place];
+    let end = halving::end(s, 0, k < next);
+    Halted {
+        place: end.low,
+        key: halving::pick64(k < next, key, next),
+    }
 }
 
 // Rule 19.7: what entries say of a clue, by halving, whatever they are: a final hop, or that a search has to follow.
@@ -200,12 +212,13 @@ pub fn quick(ekeys: &[u64], ehops: &[u16], marks: &[u8], len: u32, a: u32) -> To
         return Told::Search;
     }
     let key = entry::clue_key(bits, a as u64);
-    let low = halve(n, ekeys, key);
-    if ekeys[low] != key {
+    let found = halve(n, ekeys, key);
+    if found.key != key {
         return Told::Search;
     }
-    if marks[low] != 0 {
+    let place = found.place;
+    if marks[place] != 0 {
         return Told::Search;
     }
-    Told::Final(ehops[low])
+    Told::Final(ehops[place])
 }

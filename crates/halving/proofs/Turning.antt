@@ -1,101 +1,129 @@
 -- The law of a loop that halves and counts its turns. With `left` of the whole part of log2 n turns to go, high and low are from 2^left to
 -- 2^(left + 1) apart: each turn halves what they are apart, rounded down or up. So while turns are left there is something to probe, and
--- once there are none high - low is 1 or 2, and the end is one step.
+-- once there are none high - low is 1 or 2, and the end is one step. A number that is kept beside high goes with it.
 -- Assumes nothing.
-use mathlib.Core.Path.{_≡_, refl, sym}
+use mathlib.Core.Path.{_≡_, refl, sym, ap, _∙_}
 use mathlib.Core.Bool.{Bool, true, false, cond}
 use Prim.Native.Nat.{ℕ, zero, suc, _+_, _-_, _/_, _^_, _≤_, _<_}
-use native.Mathlib.Nat.{zero-add, add-zero, sub-zero}
+use native.Mathlib.Nat.{zero-add, add-zero}
 use native.Mathlib.Numerals.{add-one}
 use native.Mathlib.Omega.{arith}
-use lib.Dec.{ltb}
+use lib.Dec.{leb, ltb}
 use lib.Pow.{pow-pos}
-use Rattle.halving.specs.Halving.{halving}
-use Rattle.halving.specs.Narrowed.{Narrowed}
+use borrow.Author.Tests.{leb-true, leb-false, ltb-true, ltb-false}
+use Rattle.halving.specs.Halving.{Halved, halving}
 use Rattle.halving.specs.Ended.{ended}
-use Rattle.halving.proofs.Halving.{Probing, probing-start, probing-narrowed, probing-bounds, probing-probes, probing-end}
+use Rattle.halving.proofs.Halving.{Halfway, halfway-start, halfway-up, halfway-down, halfway-end, halfway-probes}
 
--- the end: where high - low is 1 nothing is left to probe, and where it is 2 one place is
-module _ {at : ℕ → ℕ} {n a place probes : ℕ} where
-  none-left : Probing at n a place 1 probes → (above : Bool) → halving at n a ≡ ended above place 1 probes
-  none-left s true = simp (sub-zero, add-zero) (probing-end s (omega arith))
-  none-left s false = simp add-zero (probing-end s (omega arith))
+-- what halving ends with, number for number
+abbrev halved : ℕ → ℕ → ℕ → Halved
+halved low high probes = record { low = low; high = high; probes = probes }
 
-  one-left : Probing at n a place 2 probes → (above : Bool) → ltb a (at place) ≡ above → halving at n a ≡ ended above place 2 probes
-  one-left s true e =
-      let down : Narrowed (ltb a (at place)) place 2 (place - 1) 1 = rw e (record { new-place = omega arith; new-apart = refl }) in
-      probing-end (probing-narrowed s (omega arith) down) (omega arith)
-  one-left s false e =
-      let up : Narrowed (ltb a (at place)) place 2 place 1 = rw e (record { new-place = omega arith; new-apart = refl }) in
-      probing-end (probing-narrowed s (omega arith) up) (omega arith)
+halved-of : {low low′ high high′ probes probes′ : ℕ} → low ≡ low′ → high ≡ high′ → probes ≡ probes′
+    → halved low high probes ≡ halved low′ high′ probes′
+halved-of e f g = rw (e, f, g)
 
-  probing-ended : (apart : ℕ) → Probing at n a place apart probes → apart ≤ 2 → halving at n a ≡ ended (ltb a (at place)) place apart probes
-  probing-ended zero s close = absurd (omega (arith, probing-bounds s))
-  probing-ended (suc zero) s close = none-left s (ltb a (at place))
-  probing-ended (suc (suc zero)) s close = one-left s (ltb a (at place)) refl
-  probing-ended (suc (suc (suc more))) s close = absurd (omega arith)
+-- what the loop keeps true, where `made` of its turns are made
+pub record Turning (at : ℕ → ℕ) (n a turns low high left : ℕ) : Type 0 where
+  pub made : ℕ
+  pub all : turns ≡ made + left
+  pub least : 2 ^ left ≤ high - low
+  pub most : high - low ≤ 2 ^ suc left
+  pub halfway : Halfway at n a low high made
 
--- what the loop keeps true
-pub record Turning (at : ℕ → ℕ) (n a turns place apart probes : ℕ) : Type 0 where
-  pub left : ℕ
-  pub all : turns ≡ probes + left
-  pub least : 2 ^ left ≤ apart
-  pub most : apart ≤ 2 ^ suc left
-  pub probing : Probing at n a place apart probes
-
-pub turning-start : (at : ℕ → ℕ) (n a turns : ℕ) → 0 < n → (2 ^ turns ≤ n) × (n < 2 ^ (turns + 1))
-    → Turning at n a turns (n / 2) n 0
+pub turning-start : (at : ℕ → ℕ) (n a turns : ℕ) → 0 < n → (2 ^ turns ≤ n) × (n < 2 ^ (turns + 1)) → Turning at n a turns 0 n turns
 turning-start at n a turns some log = record {
-  left = turns;
+  made = 0;
   all = sym (zero-add turns);
-  least = log .0;
+  least = omega (arith, log .0);
   most = omega (arith, rw add-one at (log .1));
-  probing = probing-start at n a some;
+  halfway = halfway-start at n a some;
 }
 
--- a turn, if one is left: something is left to probe, and what high and low are apart is halved, rounded down or up
-halved-apart : (above : Bool) (left : ℕ) {apart apart′ : ℕ} → apart′ ≡ cond above (apart / 2) (apart - apart / 2)
-    → 2 ^ suc left ≤ apart → apart ≤ 2 ^ suc (suc left) → (2 ^ left ≤ apart′) × (apart′ ≤ 2 ^ suc left)
-halved-apart true left e least most = (omega arith, omega arith)
-halved-apart false left e least most = (omega arith, omega arith)
+-- a number that is kept beside high is the one at high, where high is a place
+abbrev pub Kept : (ℕ → ℕ) → ℕ → ℕ → ℕ → Type 0
+Kept at n high next = high < n → next ≡ at high
 
-module _ {at : ℕ → ℕ} {n a turns place apart probes : ℕ} (t : Turning at n a turns place apart probes) where
-  pub turning-bounds : (apart / 2 ≤ place) × (place + (apart - apart / 2) ≤ n) × (0 < apart)
-  turning-bounds = probing-bounds (t .probing)
+pub kept-turn : (at : ℕ → ℕ) (n place : ℕ) (b : Bool) {high next high′ next′ : ℕ} → Kept at n high next → high′ ≡ cond b place high
+    → next′ ≡ cond b (at place) next → Kept at n high′ next′
+kept-turn at n place true kept h e l = e ∙ sym (ap at h)
+kept-turn at n place false kept h e l = e ∙ kept (omega arith) ∙ sym (ap at h)
 
-  pub turning-narrowed : {place′ apart′ : ℕ} → probes < turns → Narrowed (ltb a (at place)) place apart place′ apart′
-      → Turning at n a turns place′ apart′ (probes + 1)
-  turning-narrowed {place′} {apart′} more w = go (t .left) (t .all) (t .least) (t .most)
+module _ {at : ℕ → ℕ} {n a turns low high left : ℕ} (t : Turning at n a turns low high left) where
+  pub turning-bounds : (low < high) × (high ≤ n)
+  turning-bounds = (t .halfway .apart, t .halfway .within)
+
+  -- a turn, if one is left: something is left to probe
+  pub turning-turn : {place low′ high′ left′ : ℕ} → left ≡ suc left′ → place ≡ (low + high) / 2
+      → (low′ ≡ cond (ltb a (at place)) low place) × (high′ ≡ cond (ltb a (at place)) place high) → Turning at n a turns low′ high′ left′
+  turning-turn {place} {low′} {high′} {left′} more mid w = go (ltb a (at place)) refl (w .0) (w .1)
     where
-      go : (left : ℕ) → turns ≡ probes + left → 2 ^ left ≤ apart → apart ≤ 2 ^ suc left → Turning at n a turns place′ apart′ (probes + 1)
-      go zero all least most = absurd (omega arith)
-      go (suc left) all least most =
-          let halved = halved-apart (ltb a (at place)) left (w .new-apart) least most in
-          record {
-            left = left;
-            all = omega arith;
-            least = halved .0;
-            most = halved .1;
-            probing = probing-narrowed (t .probing) (omega (arith, pow-pos left)) w;
-          }
+      least : 2 ^ suc left′ ≤ high - low
+      least = rw more at (t .least)
+
+      most : high - low ≤ 2 ^ suc (suc left′)
+      most = rw more at (t .most)
+
+      go : (b : Bool) → ltb a (at place) ≡ b → low′ ≡ cond b low place → high′ ≡ cond b place high → Turning at n a turns low′ high′ left′
+      go true e l h = record {
+        made = t .made + 1;
+        all = omega (arith, t .all);
+        least = omega (arith, least);
+        most = omega (arith, most);
+        halfway = rw (l, h) (halfway-down (t .halfway) place mid (omega (arith, least, pow-pos left′)) (ltb-true a (at place) e));
+      }
+      go false e l h = record {
+        made = t .made + 1;
+        all = omega (arith, t .all);
+        least = omega (arith, least);
+        most = omega (arith, most);
+        halfway = rw (l, h) (halfway-up (t .halfway) place mid (omega (arith, least, pow-pos left′)) (ltb-false a (at place) e));
+      }
 
   -- with no turn left
-  module _ (over : turns ≤ probes) where
-    close : apart ≤ 2
-    close =
-        let none : t .left ≡ 0 = omega (arith, t .all) in
-        rw none at (t .most)
+  module _ (over : left ≡ 0) where
+    close : high - low ≤ 2
+    close = rw over at (t .most)
+
+    all-made : t .made ≡ turns
+    all-made = omega (arith, t .all)
 
     -- what `end` requires
     pub turning-end : n < 18446744073709551616
-        → (0 < apart) × (apart ≤ place + 1) × (place + 1 < 18446744073709551616) × (probes + apart < 18446744073709551616)
+        → (low < high) × (high < 18446744073709551616) × (turns + (high - low) < 18446744073709551616)
     turning-end word =
-        let few = probing-probes (t .probing) 64 (omega arith) in (
-          omega (arith, turning-bounds),
-          omega (arith, turning-bounds, close),
-          omega (arith, turning-bounds),
-          omega (arith, close),
-        )
+        let few = halfway-probes (t .halfway) 64 (omega arith) in
+        (omega (arith, turning-bounds), omega (arith, turning-bounds), omega (arith, close, all-made))
 
-    pub turning-ended : halving at n a ≡ ended (ltb a (at place)) place apart probes
-    turning-ended = probing-ended apart (t .probing) close
+    pub turning-ended : halving at n a ≡ ended (ltb a (at (high - 1))) low high turns
+    turning-ended = go (ltb a (at (high - 1))) refl (leb (high - low) 1) refl
+      where
+        go : (b : Bool) → ltb a (at (high - 1)) ≡ b → (c : Bool) → leb (high - low) 1 ≡ c → halving at n a ≡ ended b low high turns
+        go true e true c =
+            let none = leb-true (high - low) 1 c in
+            halfway-end (t .halfway) none ∙ halved-of refl (omega (arith, turning-bounds)) (omega (arith, all-made))
+        go false e true c =
+            let none = leb-true (high - low) 1 c in
+            halfway-end (t .halfway) none
+            ∙ halved-of (omega (arith, turning-bounds)) (omega (arith, turning-bounds)) (omega (arith, all-made))
+        go true e false c =
+            let one = leb-false (high - low) 1 c in
+            halfway-end (halfway-down (t .halfway) (high - 1) (omega (arith, close)) one (ltb-true a (at (high - 1)) e)) (omega (arith, close))
+            ∙ halved-of refl (omega (arith, close)) (omega (arith, close, all-made))
+        go false e false c =
+            let one = leb-false (high - low) 1 c in
+            halfway-end (halfway-up (t .halfway) (high - 1) (omega (arith, close)) one (ltb-false a (at (high - 1)) e)) (omega (arith, close))
+            ∙ halved-of refl (omega arith) (omega (arith, close, all-made))
+
+    -- high stays, or becomes the place before it, and what is kept beside it goes with it
+    pub kept-end : (b : Bool) {high′ next next′ : ℕ} → high′ ≡ cond b low (high - 1) + 1 → Kept at n high next
+        → next′ ≡ cond (ltb high′ high) (at (high - 1)) next → Kept at n high′ next′
+    kept-end b {high′} h kept e = kept-turn at n (high - 1) (ltb high′ high) kept (moved b h) e
+      where
+        down-or-not : (c : Bool) → ltb high′ high ≡ c → high - 1 ≤ high′ → high′ ≤ high → high′ ≡ cond c (high - 1) high
+        down-or-not true c l m = omega (arith, ltb-true high′ high c)
+        down-or-not false c l m = omega (arith, ltb-false high′ high c)
+
+        moved : (b : Bool) → high′ ≡ cond b low (high - 1) + 1 → high′ ≡ cond (ltb high′ high) (high - 1) high
+        moved true h = down-or-not _ refl (omega (arith, close)) (omega (arith, turning-bounds))
+        moved false h = down-or-not _ refl (omega arith) (omega (arith, turning-bounds))

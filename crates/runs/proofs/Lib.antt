@@ -1,6 +1,7 @@
 pub mod Table
 pub mod Found
 pub mod LookupOutcomes
+mod Reaching
 pub mod Lookups
 pub mod WholeList
 pub mod TableOutcomes

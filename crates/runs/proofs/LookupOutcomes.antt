@@ -12,8 +12,7 @@ use borrow.Author.Tests.{eqb-false, eq-eqb, ne-eqb, lt-ltb, le-ltb}
 use Rattle.ground.specs.Numbers.{firstFault, outcome, done, illFormed}
 use Rattle.ground.proofs.Truth.{or-right}
 use Rattle.ground.proofs.Numbers.{outcome-done, outcome-refused}
-use Rattle.halving.specs.Halving.{Halved}
-use Rattle.halving.proofs.Halving.{Places, halved-places, probes-at-most}
+use Rattle.halving.proofs.Halving.{low-below, probes-at-most}
 use Rattle.runs.specs.declared.Probed.{Probed}
 use Rattle.runs.specs.declared.Probed.the-variants as P
 use Rattle.runs.specs.declared.Held.{Held}
@@ -22,6 +21,7 @@ use Rattle.runs.specs.Table.{RunsLent}
 use Rattle.runs.specs.Bytes.{startAt, hopAt}
 use Rattle.runs.specs.Lookup.{lastOf, RunLookupOutcome, probed, runLookupGave, inSlices, runChecks, runLookup}
 use Rattle.runs.specs.Lookup.{BytesLookupOutcome, held, bytesLookupGave, inBytes, bytesChecks, bytesLookup}
+use Rattle.runs.specs.Inside.Reached.{ReachedBy}
 
 -- the last address: of the last run, and of another
 module _ (at : ℕ → ℕ) (n high : ℕ) where
@@ -42,15 +42,9 @@ last-agrees at other n high within same = go (eqb high n) refl
     go true e = refl
     go false e = rw (same high (omega (arith, eqb-false high n e)))
 
--- where halving ends
-pub slices-places : (n a : ℕ) (starts : List ℕ) {h : Halved} → h ≡ inSlices n starts a → 0 < n → Places (λ i. getD starts i 0) n h
-unfolding inSlices
-slices-places n a starts is some = halved-places _ n a some is
-
-pub bytes-places : (a : ℕ) (bytes : List ℕ) {h : Halved} → h ≡ inBytes bytes a → 0 < length bytes / 6
-    → Places (startAt bytes) (length bytes / 6) h
-unfolding inBytes
-bytes-places a bytes is some = halved-places _ (length bytes / 6) a some is
+-- halving ends at a place below n
+pub reached-low : {at : ℕ → ℕ} {n a low last probes : ℕ} → ReachedBy at n a low last probes → 0 < n → low < n
+reached-low {at} {n} {a} f some = omega (arith, f .low-is, low-below at n a some)
 
 module _ (t : RunsLent) where
   pub no-runs : t .count ≡ 0 → firstFault (runChecks t) ≡ illFormed
@@ -78,10 +72,11 @@ module _ (t : RunsLent) where
     unfolding runLookup
     accepted e = outcome-done (runChecks t) _ _ e
 
-    pub found : {h : Halved} {last : ℕ} → firstFault (runChecks t) ≡ done → h ≡ inSlices (t .count) (t .starts) a
-        → last ≡ lastOf (λ i. getD (t .starts) i 0) (t .count) (h .high)
-        → runLookupGave (P.Hop (getD (t .hops) (h .low) 0) last (h .probes)) ≡ runLookup t a
-    found e is l = sym (accepted e ∙ rw (l, is))
+    pub found : {low last probes : ℕ} → firstFault (runChecks t) ≡ done
+        → ReachedBy (λ i. getD (t .starts) i 0) (t .count) a low last probes
+        → runLookupGave (P.Hop (getD (t .hops) low 0) last probes) ≡ runLookup t a
+    unfolding inSlices
+    found e f = sym (accepted e ∙ rw (f .low-is, f .last-is, f .probes-are))
 
     -- the number of probes is never above the least p with 2^p at least n
     pub run-probes-at-most : (p : ℕ) → t .count ≤ 2 ^ p → runLookup t a .probes ≤ p
@@ -117,9 +112,11 @@ module _ (bytes : List ℕ) where
     unfolding bytesLookup
     bytes-looked-up e = outcome-done (bytesChecks bytes) _ _ e
 
-    pub bytes-held : {h : Halved} {n hop last : ℕ} → firstFault (bytesChecks bytes) ≡ done → h ≡ inBytes bytes a → n ≡ length bytes / 6
-        → hop ≡ hopAt bytes (h .low) → last ≡ lastOf (startAt bytes) n (h .high) → bytesLookupGave (H.Hop hop last) ≡ bytesLookup bytes a
-    bytes-held e is all p l = sym (bytes-looked-up e ∙ rw (p, l, all, is))
+    pub bytes-held : {hop low last probes : ℕ} → firstFault (bytesChecks bytes) ≡ done
+        → ReachedBy (startAt bytes) (length bytes / 6) a low last probes → hop ≡ hopAt bytes low
+        → bytesLookupGave (H.Hop hop last) ≡ bytesLookup bytes a
+    unfolding inBytes
+    bytes-held e f p = sym (bytes-looked-up e ∙ rw (p, f .low-is, f .last-is))
 
 -- two answers with one outcome are the same
 one-answer : (r r′ : Probed) → runLookupGave r ≡ runLookupGave r′ → r ≡ r′

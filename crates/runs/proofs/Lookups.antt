@@ -9,7 +9,7 @@ use native.Mathlib.Omega.{arith}
 use lib.ListN.{length, getD, take}
 use Rattle.ground.proofs.Slots.{first-long, first-slot}
 use Rattle.ground.specs.Numbers.{firstFault, done}
-use Rattle.halving.proofs.Halving.{halving-agrees}
+use Rattle.halving.proofs.Halving.{halving-agrees, high-at-most}
 use Rattle.cidr.specs.Prefix.{addresses}
 use Rattle.routes.specs.Row.{Row}
 use Rattle.routes.specs.Plain.{plain}
@@ -18,7 +18,7 @@ use Rattle.runs.specs.Bytes.{runBytes}
 use Rattle.runs.specs.Lookup.{inSlices, runChecks, runLookup, held, bytesLookup}
 use Rattle.runs.proofs.Table.{table-of}
 use Rattle.runs.proofs.Found.{lastIn, place-found, hop-found, bytes-answer}
-use Rattle.runs.proofs.LookupOutcomes.{last-agrees, slices-places, runs-accepted, accepted}
+use Rattle.runs.proofs.LookupOutcomes.{last-agrees, runs-accepted, accepted}
 
 module _ {f : ℕ → ℕ} {runs ans : List ℕ} (t : RunTable f runs ans) (starts hops : List ℕ) (s : take (length runs) starts ≡ runs)
     (h : take (length runs) hops ≡ ans) where
@@ -40,9 +40,10 @@ module _ {f : ℕ → ℕ} {runs ans : List ℕ} (t : RunTable f runs ans) (star
       (rw is, rw (is, same-halving a) (hop ∙ hop-found t a l))
 
   table-last : (a : ℕ) → runLookup (runsLent (length runs) starts hops) a .last ≡ lastIn runs a
+  unfolding inSlices
   table-last a =
       let is = accepted (runsLent (length runs) starts hops) a table-accepted in
-      let within = slices-places (length runs) a runs refl (t .some-run) .high-in in
+      let within = high-at-most (λ i. getD runs i 0) (length runs) a in
       rw (is, same-halving a) (last-agrees _ _ (length runs) _ within (first-slot (length runs) starts runs s))
 
   table-start : (a : ℕ)

@@ -1,3 +1,4 @@
 -- What functions of this crate promise one another; no public promise cites it.
 -- Assumes nothing.
+pub mod Reached
 pub mod Rows

@@ -2,8 +2,7 @@
 -- Assumes nothing.
 use native.Mathlib.Omega.{arith}
 use borrow.Author.Needs.{needs}
-use mathlib.Core.Path.{refl}
-use Rattle.runs.proofs.LookupOutcomes.{bytes-places, no-bytes, no-sixes, sixes-accepted, bytes-refused, bytes-held}
+use Rattle.runs.proofs.LookupOutcomes.{reached-low, no-bytes, no-sixes, sixes-accepted, bytes-refused, bytes-held}
 use Rattle.runs.proofs.bytes_lookup.Statement.{statement}
 use Rattle.runs.proofs.bytes_lookup.Tie as tie
 
@@ -17,17 +16,10 @@ in-bytes-requires : tie.Need-in-bytes-requires
 in-bytes-requires c κs = search needs
 
 hop-at-requires : tie.Need-hop-at-requires
-hop-at-requires c κs = omega (arith, bytes-places _ _ (c .in-bytes .ensures) (omega arith) .low-in)
-
-last-in-bytes-requires : tie.Need-last-in-bytes-requires
-last-in-bytes-requires c κs =
-    let p = bytes-places _ _ (c .before .in-bytes .ensures) (omega arith) in
-    (refl, p .high-in, p .above-none)
+hop-at-requires c κs = omega (arith, reached-low (c .in-bytes .ensures) (omega arith))
 
 returns-3 : tie.Need-returns-3
-returns-3 c =
-    bytes-held _ _ (sixes-accepted _ (omega arith) (omega arith)) (c .before .before .in-bytes .ensures) refl (c .before .hop-at .ensures)
-    (c .last-in-bytes .ensures)
+returns-3 c = bytes-held _ _ (sixes-accepted _ (omega arith) (omega arith)) (c .before .in-bytes .ensures) (c .hop-at .ensures)
 
 pub bytes-lookup-spec : {M : Type 1} → statement M
-bytes-lookup-spec = tie.close (tie.spec returns returns-2 in-bytes-requires hop-at-requires last-in-bytes-requires returns-3)
+bytes-lookup-spec = tie.close (tie.spec returns returns-2 in-bytes-requires hop-at-requires returns-3)

@@ -1,55 +1,75 @@
--- `runs::in_bytes` meets its contract. The loop keeps `Turning` true, as in `in_slices`, over the starts that the bytes give. The measure
+-- `runs::in_bytes` meets its contract. The loop keeps `Reaching` true, as in `in_slices`, over the starts that the bytes give. The measure
 -- is how many turns are left.
 -- Assumes nothing.
-use mathlib.Core.Path.{sym, _∙_}
-use Prim.Native.Nat.{_-_}
 use native.Mathlib.Omega.{arith}
-use Rattle.halving.proofs.Turning.{Turning, turning-start, turning-bounds, turning-narrowed, turning-end, turning-ended}
+use borrow.Author.Needs.{needs}
 use Rattle.runs.specs.Bytes.{startAt}
-use Rattle.runs.specs.Lookup.{inBytes}
+use Rattle.runs.proofs.Reaching.{Reaching, reaching-start, reaching-bounds, reaching-turn, reaching-end, reached-requires, reached}
 use Rattle.runs.proofs.in_bytes.Statement.{statement}
 use Rattle.runs.proofs.in_bytes.Tie as tie
 
 abbrev Inv-loop : tie.InvT-loop
-Inv-loop n bytes a turns s₀ probes₀ s probes = Turning (startAt bytes) n a turns (s .place) (s .apart) probes
+Inv-loop n bytes a turns span₀ next₀ left₀ span next left = Reaching (startAt bytes) n a turns (span .low) (span .high) next left
 
 abbrev μ-loop : tie.MeasureT-loop
-μ-loop n bytes a turns s₀ probes₀ s probes = turns - probes
+μ-loop n bytes a turns span₀ next₀ left₀ span next left = left
 
 turns-requires : tie.Need-turns-requires Inv-loop μ-loop
 turns-requires c κs = omega arith
 
 loop-holds : tie.Need-loop-holds Inv-loop μ-loop
-loop-holds c = turning-start _ _ _ _ (omega arith) (c .turns .ensures)
+loop-holds c = reaching-start _ _ _ _ _ (omega arith) (c .turns .ensures)
+
+middle-requires : tie.Need-middle-requires Inv-loop μ-loop
+middle-requires c κs = omega (arith, reaching-bounds (c .before .loop .inv))
 
 start-at-requires : tie.Need-start-at-requires Inv-loop μ-loop
-start-at-requires c κs = omega (arith, turning-bounds (c .before .loop .inv))
+start-at-requires c κs = omega (arith, reaching-bounds (c .before .before .loop .inv), c .middle .ensures)
 
-narrow-requires : tie.Need-narrow-requires Inv-loop μ-loop
-narrow-requires c κs = let b = turning-bounds (c .before .before .loop .inv) in (b .0, omega arith)
+turn-requires : tie.Need-turn-requires Inv-loop μ-loop
+turn-requires c κs = search needs
 
-add-probes : tie.Need-add-probes Inv-loop μ-loop
-add-probes c = omega arith
+pick32-requires : tie.Need-pick32-requires Inv-loop μ-loop
+pick32-requires c κs = search needs
+
+sub-left : tie.Need-sub-left Inv-loop μ-loop
+sub-left c = omega arith
 
 loop-less : tie.Need-loop-less Inv-loop μ-loop
 loop-less c = omega arith
 
 loop-again : tie.Need-loop-again Inv-loop μ-loop
 loop-again c =
-    turning-narrowed (c .before .before .before .loop .inv) (omega arith) (rw (c .before .start-at .ensures) at (c .narrow .ensures))
+    let m = c .before .before .before in
+    let start = c .before .before .start-at .ensures in
+    reaching-turn (m .before .before .loop .inv) (omega arith) (m .middle .ensures) (rw start at (c .before .turn .ensures))
+    (rw start at (c .pick32 .ensures))
+
+sub-start-at : tie.Need-sub-start-at Inv-loop μ-loop
+sub-start-at c = omega (arith, reaching-bounds (c .before .before .loop .inv))
 
 start-at-requires-2 : tie.Need-start-at-requires-2 Inv-loop μ-loop
-start-at-requires-2 c κs = omega (arith, turning-bounds (c .before .loop .inv))
+start-at-requires-2 c κs = omega (arith, reaching-bounds (c .before .before .loop .inv))
 
 end-requires : tie.Need-end-requires Inv-loop μ-loop
-end-requires c κs = turning-end (c .before .before .loop .inv) (omega arith) (omega arith)
+end-requires c κs = reaching-end (c .before .before .before .loop .inv) (omega arith) (omega arith)
+
+pick32-requires-2 : tie.Need-pick32-requires-2 Inv-loop μ-loop
+pick32-requires-2 c κs = search needs
+
+last-before-requires : tie.Need-last-before-requires Inv-loop μ-loop
+last-before-requires c κs =
+    let e = c .before .before .before in
+    let start = e .before .start-at2 .ensures in
+    reached-requires (e .before .before .before .before .loop .inv) (omega arith) (rw start at (e .end .ensures))
+    (rw start at (c .pick322 .ensures))
 
 returns : tie.Need-returns Inv-loop μ-loop
-unfolding inBytes
 returns c =
-    let start = c .before .start-at2 .ensures in
-    let l = c .before .before .before in
-    c .end .ensures ∙ rw (start, ← (l .before .before .before .pre .1)) (sym (turning-ended (l .loop .inv) (omega arith)))
+    let e = c .before .before .before .before in
+    let start = e .before .start-at2 .ensures in
+    reached (e .before .before .before .before .loop .inv) (omega arith) (rw start at (e .end .ensures))
+    (rw start at (c .before .pick322 .ensures)) (c .last-before .ensures)
 
 pub in-bytes-spec : {M : Type 1} → statement M
 in-bytes-spec =
@@ -59,11 +79,16 @@ in-bytes-spec =
     μ-loop
     turns-requires
     loop-holds
+    middle-requires
     start-at-requires
-    narrow-requires
-    add-probes
+    turn-requires
+    pick32-requires
+    sub-left
     loop-less
     loop-again
+    sub-start-at
     start-at-requires-2
     end-requires
+    pick32-requires-2
+    last-before-requires
     returns)
