@@ -216,9 +216,6 @@ module _ {at : ℕ → ℕ} {n a place apart probes : ℕ} (s : Probing at n a p
       let one : apart ≡ 1 = omega (arith, s .halfway .apart) in
       rw (low-is, ← one) (halfway-end (s .halfway) (omega arith))
 
-  pub probing-probes : (p : ℕ) → n ≤ 2 ^ p → probes ≤ p
-  probing-probes = halfway-probes (s .halfway)
-
   pub probing-narrowed : {place′ apart′ : ℕ} → 1 < apart → Narrowed (ltb a (at place)) place apart place′ apart′
       → Probing at n a place′ apart′ (probes + 1)
   probing-narrowed {place′} {apart′} far t = go (ltb a (at place)) refl (t .new-place) (t .new-apart)
