@@ -77,7 +77,7 @@ struct whelk_entries {
 
 /* Builds the entries of a list for some clues: clue i is lengths[i] and addresses[i], and the shorter of the two counts. Equal clues make one entry,
    and entries stand in key order, the key of a clue being network x 64 + length as in a list. Time: linear in the list, which it checks; and at most
-   34 searches of the list for each entry. If the clues come in key order, as a list's own rows do, a few steps for each clue come to that. If they
+   34 searches of the list for each entry. If the clues come in key order, as a list's own rows do, a few steps for each clue come on top. If they
    don't, and one clue out of place is enough, all clues are gone through for each entry, and twice where there are fewer slots than clues: that is
    quadratic, and 100,000 clues take 10,000,000,000 steps. Sort them first.
    Lend the list, the clues, and as many slots as there are clues in entry_keys, entry_hops and marks; that is always enough.
@@ -93,7 +93,7 @@ struct whelk_entries whelk_clue_build(size_t count, const uint64_t *keys, size_t
     WHELK_FILLS(10, 11) WHELK_FILLS(12, 13) WHELK_FILLS(14, 15);
 
 /* Looks an address up in a list with a clue's length and entries, and checks all that it is handed. Time: linear in the list, which it checks; and at
-   most 34 searches of the list for each entry, which are checked too. To forward by, use whelk_clue_quick.
+   most 34 searches of the list for each entry, since entries are checked too. To forward by, use whelk_clue_quick.
    Lend the list, and its entries: all of entry_keys, entry_hops and marks are entries.
    Returns a number, a hop and whether the hop was stored, for the three functions below. The number is 0, 15 if the length is above 32, 11 if the
    list is ill-formed, or 14 if the entries are others than the list's for their clues, as after an edit, or have other lengths. With number 0 the

@@ -1,4 +1,5 @@
--- Halving over the keys of entries, as the quick form's code takes it. It ends below n. Where keys ascend and one of them is looked for, it ends at that one's place.
+-- Halving over the keys of entries, as the quick form's code takes it. It ends below n. Where keys ascend and one of them is looked for, it
+-- ends at that one's place.
 -- Assumes nothing.
 use mathlib.Core.Path.{_≡_, refl, sym, ap, _∙_}
 use mathlib.Core.Logic.{⊎-elim}

@@ -1,11 +1,11 @@
 // Hints from a neighbour, for a router that is told the length of its neighbour's best match with each address: entries for such clues,
-// built from a list, and lookups that are final where no longer listed prefix extends the clue. It stands on what prefixes, the list and
+// built from a list, and lookups that are final where no listed prefix extends the clue. It stands on what prefixes, the list and
 // lookups by halving promise, and cites no law of the crates below.
 mod entry;
 mod order;
 
 ghost use mathlib.Core.Path.{_≡_};
-ghost use mathlib.Core.Bool.{true};
+ghost use mathlib.Core.Bool.{true, cond};
 ghost use Prim.Native.Nat.{_≤_, _<_};
 ghost use lib.ListN.{length, getD};
 ghost use Rattle.halving.specs.Halving.{halving};
@@ -57,8 +57,9 @@ fn too_long(lengths: &[u8], addresses: &[u32]) -> bool
 }
 
 // Rules 19.3 and 19.4: the entries of a list for lent clues, into three lent slices; 15 for a length above 32, 11 for a list that isn't
-// well-formed, 13 for more entries than room. They are counted before the first is written. Where the clues come in key order it takes a
-// step for each clue and some searches of the list for each entry; in any other order it goes over all clues for each entry.
+// well-formed, 13 for more entries than room. Where there are fewer slots than clues, entries are counted before the first is written. Where
+// the clues come in key order it takes a few steps for each clue and some searches of the list for each entry. In any other order it goes over
+// all clues for each entry, and once more where entries are counted.
 pub fn build(
     count: usize,
     keys: &[u64],
@@ -164,6 +165,13 @@ pub fn lookup(
     Hinted::Searched(entry::hop_around(rkeys, rhops, a as u64, 32))
 }
 
+// One of two keys, by a conditional move.
+fn pick(first: bool, x: u64, y: u64) -> u64
+    ensures { λ r. ⌜ r ≡ cond first x y ⌝ }
+{
+    if first { x } else { y }
+}
+
 // Where halving over keys ends, and the key there.
 struct Halted {
     place: usize,
@@ -185,7 +193,7 @@ fn halve(n: usize, ekeys: &[u64], k: u64) -> Halted
         let place = halving::middle(s);
         let next = ekeys[place];
         s = halving::turn(s, place, k < next);
-        key = halving::pick64(k < next, key, next);
+        key = pick(k < next, key, next);
         left -= 1;
     }
     let place = s.high - 1;
@@ -193,7 +201,7 @@ fn halve(n: usize, ekeys: &[u64], k: u64) -> Halted
     let end = halving::end(s, 0, k < next);
     Halted {
         place: end.low,
-        key: halving::pick64(k < next, key, next),
+        key: pick(k < next, key, next),
     }
 }
 

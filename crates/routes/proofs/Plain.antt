@@ -1,5 +1,5 @@
--- The plain answer is what rule 2.12 says. Where no listed row holds the address it is 0. Where a listed row holds it and no longer
--- listed row does, it is that row's hop. On a well-formed list exactly one of the two is the case.
+-- The plain answer is what rule 2.12 says. Where no listed row holds the address it is 0. Where a listed row holds it and no
+-- listed row that is longer does, it is that row's hop. On a well-formed list exactly one of the two is the case.
 -- Assumes nothing.
 use mathlib.Core.Path.{_≡_, refl, sym, ap, _∙_, subst}
 use mathlib.Core.Logic.{_⊎_, inl, inr, ⊎-elim}

@@ -1,6 +1,6 @@
--- From the contracts alone: what the listing answered is true. The row that it names decides, and its place is the last one lent; where it names
--- none, none holds the address; and a refusal's fault is there. So plain lookup gives the hop of the row that the listing names, 0 where it
--- names none, and 11 exactly where the listing does.
+-- From the contracts alone: what the listing answered is true. The row that it names decides, and its place stands in the last slot that was
+-- written; where it names none, none holds the address; and a refusal's fault is there. So plain lookup gives the hop of the row that the
+-- listing names, 0 where it names none, and 11 exactly where the listing does.
 -- Assumes nothing.
 use mathlib.Core.Path.{_≡_, refl, sym, ap, _∙_}
 use mathlib.Core.Logic.{⊎-elim}

@@ -1,5 +1,5 @@
 -- Rules 18.1 to 18.4: why an address gets its hop. The listing gives the places of all rows that hold the address, shortest prefix first,
--- and the reason: no listed row holds it, or one row does and no longer one does. It returns 11 for a list that isn't well-formed and 13 for
+-- and the reason: no listed row holds it, or one row does and none that is longer. It returns 11 for a list that isn't well-formed and 13 for
 -- more places than room.
 -- Assumes nothing.
 use mathlib.Core.Bool.{not}

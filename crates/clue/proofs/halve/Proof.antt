@@ -38,8 +38,8 @@ shared-slice-read-next c = omega (arith, turning-bounds (c .before .before .befo
 turn-requires : tie.Need-turn-requires Inv-loop μ-loop
 turn-requires c κs = search needs
 
-pick64-requires : tie.Need-pick64-requires Inv-loop μ-loop
-pick64-requires c κs = search needs
+pick-requires : tie.Need-pick-requires Inv-loop μ-loop
+pick-requires c κs = search needs
 
 sub-left : tie.Need-sub-left Inv-loop μ-loop
 sub-left c = omega arith
@@ -50,7 +50,7 @@ loop-less c = omega arith
 loop-again : tie.Need-loop-again Inv-loop μ-loop
 loop-again c =
     let m = c .before .before .before in
-    turning-turn (m .before .before .loop .inv) (omega arith) (m .middle .ensures) (c .before .turn .ensures) (c .pick64 .ensures)
+    turning-turn (m .before .before .loop .inv) (omega arith) (m .middle .ensures) (c .before .turn .ensures) (c .pick .ensures)
 
 sub-place : tie.Need-sub-place Inv-loop μ-loop
 sub-place c = omega (arith, turning-bounds (c .before .before .loop .inv))
@@ -64,8 +64,8 @@ shared-slice-read-next-2 c = omega (arith, turning-bounds (c .before .before .be
 end-requires : tie.Need-end-requires Inv-loop μ-loop
 end-requires c κs = turning-end (c .before .before .before .loop .inv) (omega arith) (omega arith)
 
-pick64-requires-2 : tie.Need-pick64-requires-2 Inv-loop μ-loop
-pick64-requires-2 c κs = search needs
+pick-requires-2 : tie.Need-pick-requires-2 Inv-loop μ-loop
+pick-requires-2 c κs = search needs
 
 returns : tie.Need-returns Inv-loop μ-loop
 returns c =
@@ -73,7 +73,7 @@ returns c =
     let inv = e .before .before .before .before .loop .inv in
     let place = ap (λ (h : Halved). h .low) (e .end .ensures) in
     let low = last-turn inv (omega arith) place in
-    (low, rw low (halving-below _ _ _ (omega arith)), last-key inv (omega arith) place (c .pick642 .ensures))
+    (low, rw low (halving-below _ _ _ (omega arith)), last-key inv (omega arith) place (c .pick2 .ensures))
 
 pub halve-spec : {M : Type 1} → statement M
 halve-spec =
@@ -88,7 +88,7 @@ halve-spec =
     mul-next
     shared-slice-read-next
     turn-requires
-    pick64-requires
+    pick-requires
     sub-left
     loop-less
     loop-again
@@ -96,5 +96,5 @@ halve-spec =
     mul-next-2
     shared-slice-read-next-2
     end-requires
-    pick64-requires-2
+    pick-requires-2
     returns)
