@@ -5,7 +5,7 @@ mod entry;
 mod order;
 
 ghost use mathlib.Core.Path.{_≡_};
-ghost use mathlib.Core.Bool.{true, cond};
+ghost use mathlib.Core.Bool.{true};
 ghost use Prim.Native.Nat.{_≤_, _<_};
 ghost use lib.ListN.{length, getD};
 ghost use Rattle.halving.specs.Halving.{halving};
@@ -15,7 +15,6 @@ ghost use Rattle.clue.specs.Entries.{entriesLent, itsEntries};
 ghost use Rattle.clue.specs.Build.{tooLong, entriesGave, buildEntries};
 ghost use Rattle.clue.specs.Lookup.{hintGave, hintLookup};
 ghost use Rattle.clue.specs.Quick.{quickGave, quickLookup};
-use halving::Span;
 use routes::Place;
 
 // What a build of entries gives: how many there are, 15, 11, or 13.
@@ -165,44 +164,21 @@ pub fn lookup(
     Hinted::Searched(entry::hop_around(rkeys, rhops, a as u64, 32))
 }
 
-// One of two keys, by a conditional move.
-fn pick(first: bool, x: u64, y: u64) -> u64
-    ensures { λ r. ⌜ r ≡ cond first x y ⌝ }
-{
-    if first { x } else { y }
-}
-
-// Where halving over keys ends, and the key there.
-struct Halted {
-    place: usize,
-    key: u64,
-}
-
-// Rule 7.3: where halving over the first n keys ends. The key at low is kept beside it, so that it needn't be read again. How many probes it
-// made isn't asked.
-fn halve(n: usize, ekeys: &[u64], k: u64) -> Halted
+// Rule 7.3: where halving over the first n keys ends. How many probes it made isn't asked.
+fn halve(n: usize, ekeys: &[u64], k: u64) -> usize
     requires { ⌜ (0 < n) × (n ≤ length (now ekeys)) ⌝ }
-    ensures { λ r.
-        ⌜ (r .place ≡ halving (λ i. getD (now (ekeys .entry)) i 0) n k .low) × (r .place < n)
-        × (r .key ≡ getD (now (ekeys .entry)) (r .place) 0) ⌝ }
+    ensures { λ r. ⌜ (r ≡ halving (λ i. getD (now (ekeys .entry)) i 0) n k .low) × (r < n) ⌝ }
 {
-    let mut s = Span { low: 0, high: n };
-    let mut key = ekeys[0];
+    let mut s = halving::whole(n);
     let mut left = halving::turns(n);
     while 0 < left {
-        let place = halving::middle(s);
-        let next = ekeys[place];
-        s = halving::turn(s, place, k < next);
-        key = pick(k < next, key, next);
+        let place = s.place;
+        s = halving::narrow(s, k < ekeys[place]);
         left -= 1;
     }
-    let place = s.high - 1;
-    let next = ekeys[place];
-    let end = halving::end(s, 0, k < next);
-    Halted {
-        place: end.low,
-        key: pick(k < next, key, next),
-    }
+    let place = s.place;
+    let found = halving::end(s, 0, k < ekeys[place]);
+    found.low
 }
 
 // Rule 19.7: what entries say of a clue, by halving, whatever they are: a final hop, or that a search has to follow.
@@ -220,11 +196,10 @@ pub fn quick(ekeys: &[u64], ehops: &[u16], marks: &[u8], len: u32, a: u32) -> To
         return Told::Search;
     }
     let key = entry::clue_key(bits, a as u64);
-    let found = halve(n, ekeys, key);
-    if found.key != key {
+    let place = halve(n, ekeys, key);
+    if ekeys[place] != key {
         return Told::Search;
     }
-    let place = found.place;
     if marks[place] != 0 {
         return Told::Search;
     }

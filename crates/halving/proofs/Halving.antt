@@ -191,51 +191,42 @@ module _ {at : ℕ → ℕ} {n a low high probes : ℕ} (s : Halfway at n a low 
       goes-on = λ r. s .goes-on (down far (rw half at l) (rw half at r)) ∙ simp (add-one, suc-add, add-suc);
     }
 
--- high and low come closer
-pub narrowed-closer : {above : Bool} {place apart place′ apart′ : ℕ} → Narrowed above place apart place′ apart′ → 1 < apart → apart′ < apart
-narrowed-closer {above = true} t far = omega (arith, t .new-apart)
-narrowed-closer {above = false} t far = omega (arith, t .new-apart)
-
 -- what code that carries the place to probe next keeps true: it is halfway, and the place is (low + high) div 2
-pub record Probing (at : ℕ → ℕ) (n a place apart probes : ℕ) : Type 0 where
-  pub low : ℕ
-  pub next : place ≡ low + apart / 2
-  pub halfway : Halfway at n a low (low + apart) probes
+pub record Probing (at : ℕ → ℕ) (n a place low high probes : ℕ) : Type 0 where
+  pub next : place ≡ (low + high) / 2
+  pub halfway : Halfway at n a low high probes
 
-pub probing-start : (at : ℕ → ℕ) (n a : ℕ) → 1 ≤ n → Probing at n a (n / 2) n 0
-probing-start at n a h = record { low = 0; next = sym (zero-add _); halfway = rw zero-add (halfway-start at n a h) }
+-- before the first probe, with what `whole` gives
+pub probing-start : (at : ℕ → ℕ) (n a : ℕ) {place low high : ℕ} → 1 ≤ n → (place ≡ n / 2) × (low ≡ 0) × (high ≡ n)
+    → Probing at n a place low high 0
+probing-start at n a h w = record { next = omega (arith, w); halfway = rw (w .1, w .2) (halfway-start at n a h) }
 
-module _ {at : ℕ → ℕ} {n a place apart probes : ℕ} (s : Probing at n a place apart probes) where
-  -- low and high are places
-  pub probing-bounds : (apart / 2 ≤ place) × (place + (apart - apart / 2) ≤ n) × (0 < apart)
-  probing-bounds = (omega (arith, s .next), omega (arith, s .next, s .halfway .within), omega (arith, s .halfway .apart))
+module _ {at : ℕ → ℕ} {n a place low high probes : ℕ} (s : Probing at n a place low high probes) where
+  -- the place is one from low on and below high
+  pub probing-bounds : (low ≤ place) × (place < high) × (high ≤ n)
+  probing-bounds =
+      (omega (arith, s .next, s .halfway .apart), omega (arith, s .next, s .halfway .apart), s .halfway .within)
 
-  pub probing-end : apart ≤ 1 → halving at n a ≡ record { low = place; high = place + 1; probes = probes }
+  pub probing-end : place ≤ low → halving at n a ≡ record { low = place; high = place + 1; probes = probes }
   probing-end close =
-      let low-is : place ≡ s .low = omega (arith, s .next) in
-      let one : apart ≡ 1 = omega (arith, s .halfway .apart) in
-      rw (low-is, ← one) (halfway-end (s .halfway) (omega arith))
+      let low-is : place ≡ low = omega (arith, probing-bounds) in
+      let high-is : place + 1 ≡ high = omega (arith, s .next, s .halfway .apart) in
+      rw (high-is, low-is) (halfway-end (s .halfway) (omega arith))
 
-  pub probing-narrowed : {place′ apart′ : ℕ} → 1 < apart → Narrowed (ltb a (at place)) place apart place′ apart′
-      → Probing at n a place′ apart′ (probes + 1)
-  probing-narrowed {place′} {apart′} far t = go (ltb a (at place)) refl (t .new-place) (t .new-apart)
-    where
-      mid : place ≡ (s .low + (s .low + apart)) / 2
-      mid = omega (arith, s .next)
+  module _ {place′ low′ high′ : ℕ} (far : low < place) (t : Narrowed (ltb a (at place)) place low high place′ low′ high′) where
+    pub probing-narrowed : Probing at n a place′ low′ high′ (probes + 1)
+    probing-narrowed = record { next = t .new-place; halfway = go (ltb a (at place)) refl (t .new-low) (t .new-high) }
+      where
+        two : 1 < high - low
+        two = omega (arith, s .next)
 
-      go : (b : Bool) → ltb a (at place) ≡ b → place′ ≡ cond b (place - apart / 2 + apart / 2 / 2) (place + (apart - apart / 2) / 2)
-          → apart′ ≡ cond b (apart / 2) (apart - apart / 2) → Probing at n a place′ apart′ (probes + 1)
-      go true e p k =
-          let high : s .low + apart′ ≡ place = omega (arith, s .next) in
-          record {
-            low = s .low;
-            next = omega (arith, s .next);
-            halfway = rw high (halfway-down (s .halfway) place mid (omega arith) (ltb-true a (at place) e));
-          }
-      go false e p k =
-          let high : place + apart′ ≡ s .low + apart = omega (arith, s .next) in
-          record {
-            low = place;
-            next = omega arith;
-            halfway = rw high (halfway-up (s .halfway) place mid (omega arith) (ltb-false a (at place) e));
-          }
+        go : (b : Bool) → ltb a (at place) ≡ b → low′ ≡ cond b low place → high′ ≡ cond b place high
+            → Halfway at n a low′ high′ (probes + 1)
+        go true e l h = rw (l, h) (halfway-down (s .halfway) place (s .next) two (ltb-true a (at place) e))
+        go false e l h = rw (l, h) (halfway-up (s .halfway) place (s .next) two (ltb-false a (at place) e))
+
+-- high and low come closer
+pub narrowed-closer : {above : Bool} {place low high place′ low′ high′ : ℕ} → Narrowed above place low high place′ low′ high′ → low < place
+    → place < high → high′ - low′ < high - low
+narrowed-closer {above = true} t l h = omega (arith, t .new-low, t .new-high)
+narrowed-closer {above = false} t l h = omega (arith, t .new-low, t .new-high)

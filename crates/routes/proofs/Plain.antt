@@ -23,7 +23,7 @@ use Rattle.routes.proofs.WellFormed.{one-row}
 abbrev pub NoMatch : List Row → ℕ → Type 0
 NoMatch rows a = (r : Row) → Has r rows → holds (r .key) a ≡ false
 
--- the row is listed, it holds the address, and no longer listed row does
+-- the row is listed, it holds the address, and no listed row that is longer does
 pub record Longest (rows : List Row) (a : ℕ) (r : Row) : Type 0 where
   pub listed : Has r rows
   pub matches : holds (r .key) a ≡ true

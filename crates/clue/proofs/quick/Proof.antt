@@ -49,22 +49,29 @@ halve-requires c κs =
 place-is : (c : tie.After-halve)
     → let r = at-room (c .before) in
     let args = at-start r .args in
-    c .halve .result .place ≡ quickPlace (entries r) (clueOf (args .len) (args .a))
+    c .halve .result ≡ quickPlace (entries r) (clueOf (args .len) (args .a))
 place-is c =
     let r = at-room (c .before) in
     let args = at-start r .args in
     quick-place (entries r) (args .len) (args .a) (r .entry-room .ensures) (c .before .clue-key .ensures) (c .halve .ensures .0)
 
-place-within : (c : tie.After-halve) → c .halve .result .place < entryRoom (entries (at-room (c .before)))
+place-within : (c : tie.After-halve) → c .halve .result < entryRoom (entries (at-room (c .before)))
 place-within c = omega (arith, at-room (c .before) .entry-room .ensures, c .halve .ensures .1)
+
+mul-if3 : tie.Need-mul-if3
+mul-if3 c = omega (arith, place-within c, room-within (entries (at-room (c .before))) .0)
+
+shared-slice-read-if3 : tie.Need-shared-slice-read-if3
+shared-slice-read-if3 c =
+    let h = c .before in
+    omega (arith, place-within h, room-within (entries (at-room (h .before))) .0)
 
 returns-3 : tie.Need-returns-3
 returns-3 c =
     let h = c .before .before in
     let r = at-room (h .before) in
     let args = at-start r .args in
-    quick-other (entries r) (args .len) (args .a) (place-is h)
-    (λ e. omega (arith, c .if3 .taken, e, h .halve .ensures .2, h .before .clue-key .ensures))
+    quick-other (entries r) (args .len) (args .a) (place-is h) (λ e. omega (arith, c .if3 .taken, e, h .before .clue-key .ensures))
 
 shared-slice-read-if4 : tie.Need-shared-slice-read-if4
 shared-slice-read-if4 c =
@@ -78,8 +85,8 @@ returns-4 c =
     let args = at-start r .args in
     quick-marked (entries r) (args .len) (args .a) (place-is h) (λ e. omega (arith, c .if4 .taken, e))
 
-mul-t15 : tie.Need-mul-t15
-mul-t15 c =
+mul-t12 : tie.Need-mul-t12
+mul-t12 c =
     let h = c .before .before .before .before in
     omega (arith, place-within h, room-within (entries (at-room (h .before))) .1)
 
@@ -96,7 +103,7 @@ returns-5 c =
     let r = at-room (h .before) in
     let args = at-start r .args in
     quick-found (entries r) (args .len) (args .a) (place-is h) (omega (arith, place-within h)) (h .before .before .if2 .left)
-    (sym (h .halve .ensures .2) ∙ k .if3 .left ∙ h .before .clue-key .ensures) (m .if4 .left)
+    (k .if3 .left ∙ h .before .clue-key .ensures) (m .if4 .left)
 
 pub quick-spec : {M : Type 1} → statement M
 quick-spec =
@@ -107,9 +114,11 @@ quick-spec =
     returns-2
     clue-key-requires
     halve-requires
+    mul-if3
+    shared-slice-read-if3
     returns-3
     shared-slice-read-if4
     returns-4
-    mul-t15
+    mul-t12
     shared-slice-read-t17
     returns-5)

@@ -1,36 +1,41 @@
--- `runs::in_bytes` meets its contract. The loop keeps `Reaching` true, as in `in_slices`, over the starts that the bytes give. The measure
--- is how many turns are left.
+-- `runs::in_bytes` meets its contract. The loop keeps `Reaching` true, over the starts that the bytes give: halving is halfway, and what is
+-- kept is the last address before high. The measure is how many turns are left.
 -- Assumes nothing.
 use native.Mathlib.Omega.{arith}
 use borrow.Author.Needs.{needs}
+use borrow.Author.Tests.{ltb-true}
 use Rattle.runs.specs.Bytes.{startAt}
-use Rattle.runs.proofs.Reaching.{Reaching, reaching-start, reaching-bounds, reaching-turn, reaching-end, reached-requires, reached}
+use Rattle.halving.proofs.Turning.{turning-end}
+use Rattle.runs.proofs.Reaching.{reached, Reaching, reaching-start, reaching-bounds, reaching-turn, reaching-last}
 use Rattle.runs.proofs.in_bytes.Statement.{statement}
 use Rattle.runs.proofs.in_bytes.Tie as tie
 
 abbrev Inv-loop : tie.InvT-loop
-Inv-loop n bytes a turns span₀ next₀ left₀ span next left = Reaching (startAt bytes) n a turns (span .low) (span .high) next left
+Inv-loop n bytes a turns s₀ last₀ left₀ s last left =
+    Reaching (startAt bytes) n a turns (s .place) (s .low) (s .high) last left
 
 abbrev μ-loop : tie.MeasureT-loop
-μ-loop n bytes a turns span₀ next₀ left₀ span next left = left
+μ-loop n bytes a turns s₀ last₀ left₀ s last left = left
 
 turns-requires : tie.Need-turns-requires Inv-loop μ-loop
 turns-requires c κs = omega arith
 
-loop-holds : tie.Need-loop-holds Inv-loop μ-loop
-loop-holds c = reaching-start _ _ _ _ _ (omega arith) (c .turns .ensures)
+whole-requires : tie.Need-whole-requires Inv-loop μ-loop
+whole-requires c κs = search needs
 
-middle-requires : tie.Need-middle-requires Inv-loop μ-loop
-middle-requires c κs = omega (arith, reaching-bounds (c .before .loop .inv))
+loop-holds : tie.Need-loop-holds Inv-loop μ-loop
+loop-holds c = reaching-start _ _ _ _ (omega arith) (c .before .turns .ensures) (c .whole .ensures)
 
 start-at-requires : tie.Need-start-at-requires Inv-loop μ-loop
-start-at-requires c κs = omega (arith, reaching-bounds (c .before .before .loop .inv), c .middle .ensures)
+start-at-requires c κs = omega (arith, reaching-bounds (c .before .loop .inv))
 
-turn-requires : tie.Need-turn-requires Inv-loop μ-loop
-turn-requires c κs = search needs
+narrow-requires : tie.Need-narrow-requires Inv-loop μ-loop
+narrow-requires c κs = let b = reaching-bounds (c .before .before .loop .inv) in (b .0, omega arith, omega arith)
 
-pick32-requires : tie.Need-pick32-requires Inv-loop μ-loop
-pick32-requires c κs = search needs
+lowered-requires : tie.Need-lowered-requires Inv-loop μ-loop
+lowered-requires c κs =
+    let m = c .before in
+    λ e. omega (arith, ltb-true (m .before .before .before .before .before .before .args .a) (m .start-at .result) e)
 
 sub-left : tie.Need-sub-left Inv-loop μ-loop
 sub-left c = omega arith
@@ -40,36 +45,33 @@ loop-less c = omega arith
 
 loop-again : tie.Need-loop-again Inv-loop μ-loop
 loop-again c =
-    let m = c .before .before .before in
-    let start = c .before .before .start-at .ensures in
-    reaching-turn (m .before .before .loop .inv) (omega arith) (m .middle .ensures) (rw start at (c .before .turn .ensures))
-    (rw start at (c .pick32 .ensures))
-
-sub-start-at : tie.Need-sub-start-at Inv-loop μ-loop
-sub-start-at c = omega (arith, reaching-bounds (c .before .before .loop .inv))
+    let m = c .before .before in
+    let start = m .start-at .ensures in
+    reaching-turn (m .before .before .loop .inv) (omega arith) (rw start at (c .before .narrow .ensures)) (rw start at (c .lowered .ensures))
 
 start-at-requires-2 : tie.Need-start-at-requires-2 Inv-loop μ-loop
-start-at-requires-2 c κs = omega (arith, reaching-bounds (c .before .before .loop .inv))
+start-at-requires-2 c κs = omega (arith, reaching-bounds (c .before .loop .inv))
 
 end-requires : tie.Need-end-requires Inv-loop μ-loop
-end-requires c κs = reaching-end (c .before .before .before .loop .inv) (omega arith) (omega arith)
+end-requires c κs = turning-end (c .before .before .loop .inv .turning) (omega arith) (omega arith)
 
-pick32-requires-2 : tie.Need-pick32-requires-2 Inv-loop μ-loop
-pick32-requires-2 c κs = search needs
+lowered-requires-2 : tie.Need-lowered-requires-2 Inv-loop μ-loop
+lowered-requires-2 c κs =
+    let m = c .before .before in
+    λ e. omega (arith, ltb-true (m .before .before .before .before .before .before .args .a) (m .start-at2 .result) e)
 
-last-before-requires : tie.Need-last-before-requires Inv-loop μ-loop
-last-before-requires c κs =
-    let e = c .before .before .before in
-    let start = e .before .start-at2 .ensures in
-    reached-requires (e .before .before .before .before .loop .inv) (omega arith) (rw start at (e .end .ensures))
-    (rw start at (c .pick322 .ensures))
+pick-requires : tie.Need-pick-requires Inv-loop μ-loop
+pick-requires c κs = search needs
 
 returns : tie.Need-returns Inv-loop μ-loop
 returns c =
-    let e = c .before .before .before .before in
+    let l = c .before in
+    let e = l .before .before in
+    let inv = e .before .before .before .loop .inv in
     let start = e .before .start-at2 .ensures in
-    reached (e .before .before .before .before .loop .inv) (omega arith) (rw start at (e .end .ensures))
-    (rw start at (c .before .pick322 .ensures)) (c .last-before .ensures)
+    let is = rw start at (e .end .ensures) in
+    let last = rw (l .lowered2 .ensures, start) at (c .pick .ensures) in
+    reached (inv .turning) (omega arith) is (reaching-last inv (omega arith) is last)
 
 pub in-bytes-spec : {M : Type 1} → statement M
 in-bytes-spec =
@@ -78,17 +80,16 @@ in-bytes-spec =
     Inv-loop
     μ-loop
     turns-requires
+    whole-requires
     loop-holds
-    middle-requires
     start-at-requires
-    turn-requires
-    pick32-requires
+    narrow-requires
+    lowered-requires
     sub-left
     loop-less
     loop-again
-    sub-start-at
     start-at-requires-2
     end-requires
-    pick32-requires-2
-    last-before-requires
+    lowered-requires-2
+    pick-requires
     returns)

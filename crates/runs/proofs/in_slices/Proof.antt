@@ -1,39 +1,37 @@
--- `runs::in_slices` meets its contract. The loop keeps `Reaching` true: halving is halfway, the turns that are left are as many as
--- high and low still need, and what is kept is the start at high. The measure is how many turns are left.
+-- `runs::in_slices` meets its contract. The loop keeps `Turning` true: halving is halfway, and the turns that are left are as many as high
+-- and low still need. The measure is how many turns are left.
 -- Assumes nothing.
 use native.Mathlib.Omega.{arith}
 use borrow.Author.Needs.{needs}
 use lib.ListN.{getD}
-use Rattle.runs.proofs.Reaching.{Reaching, reaching-start, reaching-bounds, reaching-turn, reaching-end, reached-requires, reached}
+use Rattle.halving.proofs.Turning.{Turning, turning-start, turning-bounds, turning-turn, turning-end}
+use Rattle.runs.proofs.Reaching.{reached-high, reached}
 use Rattle.runs.proofs.in_slices.Statement.{statement}
 use Rattle.runs.proofs.in_slices.Tie as tie
 
 abbrev Inv-loop : tie.InvT-loop
-Inv-loop n starts a turns s₀ next₀ left₀ s next left = Reaching (λ i. getD starts i 0) n a turns (s .low) (s .high) next left
+Inv-loop n starts a turns s₀ left₀ s left = Turning (λ i. getD starts i 0) n a turns (s .place) (s .low) (s .high) left
 
 abbrev μ-loop : tie.MeasureT-loop
-μ-loop n starts a turns s₀ next₀ left₀ s next left = left
+μ-loop n starts a turns s₀ left₀ s left = left
 
 turns-requires : tie.Need-turns-requires Inv-loop μ-loop
 turns-requires c κs = omega arith
 
+whole-requires : tie.Need-whole-requires Inv-loop μ-loop
+whole-requires c κs = search needs
+
 loop-holds : tie.Need-loop-holds Inv-loop μ-loop
-loop-holds c = reaching-start _ _ _ _ _ (omega arith) (c .turns .ensures)
+loop-holds c = turning-start _ _ _ _ (omega arith) (c .before .turns .ensures) (c .whole .ensures)
 
-middle-requires : tie.Need-middle-requires Inv-loop μ-loop
-middle-requires c κs = omega (arith, reaching-bounds (c .before .loop .inv))
+mul-narrow : tie.Need-mul-narrow Inv-loop μ-loop
+mul-narrow c = omega (arith, turning-bounds (c .before .loop .inv))
 
-mul-start : tie.Need-mul-start Inv-loop μ-loop
-mul-start c = omega (arith, reaching-bounds (c .before .before .loop .inv), c .middle .ensures)
+shared-slice-read-narrow : tie.Need-shared-slice-read-narrow Inv-loop μ-loop
+shared-slice-read-narrow c = omega (arith, turning-bounds (c .before .before .loop .inv))
 
-shared-slice-read-start : tie.Need-shared-slice-read-start Inv-loop μ-loop
-shared-slice-read-start c = omega (arith, reaching-bounds (c .before .before .before .loop .inv), c .before .middle .ensures)
-
-turn-requires : tie.Need-turn-requires Inv-loop μ-loop
-turn-requires c κs = search needs
-
-pick32-requires : tie.Need-pick32-requires Inv-loop μ-loop
-pick32-requires c κs = search needs
+narrow-requires : tie.Need-narrow-requires Inv-loop μ-loop
+narrow-requires c κs = let b = turning-bounds (c .before .before .loop .inv) in (b .0, omega arith, omega arith)
 
 sub-left : tie.Need-sub-left Inv-loop μ-loop
 sub-left c = omega arith
@@ -42,35 +40,24 @@ loop-less : tie.Need-loop-less Inv-loop μ-loop
 loop-less c = omega arith
 
 loop-again : tie.Need-loop-again Inv-loop μ-loop
-loop-again c =
-    let m = c .before .before .before in
-    let inv = m .before .before .loop .inv in
-    reaching-turn inv (omega arith) (m .middle .ensures) (c .before .turn .ensures) (c .pick32 .ensures)
+loop-again c = turning-turn (c .before .before .before .loop .inv) (omega arith) (c .narrow .ensures)
 
-sub-place : tie.Need-sub-place Inv-loop μ-loop
-sub-place c = omega (arith, reaching-bounds (c .before .before .loop .inv))
+mul-end : tie.Need-mul-end Inv-loop μ-loop
+mul-end c = omega (arith, turning-bounds (c .before .loop .inv))
 
-mul-start-2 : tie.Need-mul-start-2 Inv-loop μ-loop
-mul-start-2 c = omega (arith, reaching-bounds (c .before .before .loop .inv))
-
-shared-slice-read-start-2 : tie.Need-shared-slice-read-start-2 Inv-loop μ-loop
-shared-slice-read-start-2 c = omega (arith, reaching-bounds (c .before .before .before .loop .inv))
+shared-slice-read-end : tie.Need-shared-slice-read-end Inv-loop μ-loop
+shared-slice-read-end c = omega (arith, turning-bounds (c .before .before .loop .inv))
 
 end-requires : tie.Need-end-requires Inv-loop μ-loop
-end-requires c κs = reaching-end (c .before .before .before .loop .inv) (omega arith) (omega arith)
-
-pick32-requires-2 : tie.Need-pick32-requires-2 Inv-loop μ-loop
-pick32-requires-2 c κs = search needs
+end-requires c κs = turning-end (c .before .before .loop .inv) (omega arith) (omega arith)
 
 last-before-requires : tie.Need-last-before-requires Inv-loop μ-loop
 last-before-requires c κs =
-    let inv = c .before .before .before .before .before .before .before .loop .inv in
-    reached-requires inv (omega arith) (c .before .before .before .end .ensures) (c .pick322 .ensures)
+    let high = reached-high (c .before .before .before .loop .inv) (omega arith) (c .end .ensures) in
+    (omega arith, high .0, high .1)
 
 returns : tie.Need-returns Inv-loop μ-loop
-returns c =
-    let inv = c .before .before .before .before .before .before .before .before .loop .inv in
-    reached inv (omega arith) (c .before .before .before .before .end .ensures) (c .before .pick322 .ensures) (c .last-before .ensures)
+returns c = reached (c .before .before .before .before .loop .inv) (omega arith) (c .before .end .ensures) (c .last-before .ensures)
 
 pub in-slices-spec : {M : Type 1} → statement M
 in-slices-spec =
@@ -79,19 +66,16 @@ in-slices-spec =
     Inv-loop
     μ-loop
     turns-requires
+    whole-requires
     loop-holds
-    middle-requires
-    mul-start
-    shared-slice-read-start
-    turn-requires
-    pick32-requires
+    mul-narrow
+    shared-slice-read-narrow
+    narrow-requires
     sub-left
     loop-less
     loop-again
-    sub-place
-    mul-start-2
-    shared-slice-read-start-2
+    mul-end
+    shared-slice-read-end
     end-requires
-    pick32-requires-2
     last-before-requires
     returns)

@@ -1,17 +1,18 @@
 -- `halving::column64::lower` meets its contract. The loop keeps `Finding` true: halving for k - 1 is halfway. The measure is how far high
 -- is from low.
 -- Assumes nothing.
+use Prim.Native.Nat.{_-_}
 use native.Mathlib.Omega.{arith}
-use Rattle.halving.proofs.Halving.{narrowed-closer}
-use Rattle.halving.proofs.Finding.{none-lower, first-above, Finding, finding-start, finding-bounds, finding-narrowed, finding-end}
+use borrow.Author.Needs.{needs}
+use Rattle.halving.proofs.Finding.{none-lower, first-above, Finding, finding-start, finding-bounds, finding-narrowed, finding-closer, finding-end}
 use Rattle.halving.proofs.column64.lower.Statement.{statement}
 use Rattle.halving.proofs.column64.lower.Tie as tie
 
 abbrev Inv-loop : tie.InvT-loop
-Inv-loop column k n s₀ s = Finding column k n (s .place) (s .apart)
+Inv-loop column k n s₀ s = Finding column k n (s .place) (s .low) (s .high)
 
 abbrev μ-loop : tie.MeasureT-loop
-μ-loop column k n s₀ s = s .apart
+μ-loop column k n s₀ s = s .high - s .low
 
 returns : tie.Need-returns Inv-loop μ-loop
 returns c = λ a. none-lower _ _ (omega arith)
@@ -22,8 +23,11 @@ shared-slice-read-if2 c = omega arith
 returns-2 : tie.Need-returns-2 Inv-loop μ-loop
 returns-2 c = λ a. first-above _ _ (omega arith) a
 
+whole-requires : tie.Need-whole-requires Inv-loop μ-loop
+whole-requires c κs = search needs
+
 loop-holds : tie.Need-loop-holds Inv-loop μ-loop
-loop-holds c = finding-start (omega arith) (omega arith) (omega arith)
+loop-holds c = finding-start (omega arith) (omega arith) (omega arith) (c .whole .ensures)
 
 mul-narrow : tie.Need-mul-narrow Inv-loop μ-loop
 mul-narrow c = omega (arith, finding-bounds (c .before .before .loop .inv))
@@ -32,10 +36,10 @@ shared-slice-read-narrow : tie.Need-shared-slice-read-narrow Inv-loop μ-loop
 shared-slice-read-narrow c = omega (arith, finding-bounds (c .before .before .before .loop .inv))
 
 narrow-requires : tie.Need-narrow-requires Inv-loop μ-loop
-narrow-requires c κs = let b = finding-bounds (c .before .before .before .loop .inv) in (b .0, omega arith)
+narrow-requires c κs = let b = finding-bounds (c .before .before .before .loop .inv) in (b .0, omega arith, omega arith)
 
 loop-less : tie.Need-loop-less Inv-loop μ-loop
-loop-less c = narrowed-closer (c .narrow .ensures) (omega arith)
+loop-less c = finding-closer (c .before .before .before .before .loop .inv) (omega arith) (c .narrow .ensures)
 
 loop-again : tie.Need-loop-again Inv-loop μ-loop
 loop-again c = finding-narrowed (c .before .before .before .before .loop .inv) (omega arith) (c .narrow .ensures)
@@ -55,6 +59,7 @@ lower-spec =
     returns
     shared-slice-read-if2
     returns-2
+    whole-requires
     loop-holds
     mul-narrow
     shared-slice-read-narrow
