@@ -1,6 +1,7 @@
 -- The laws of `halving`, over any function from places to starts, in no order: the loop ends by itself within n turns; its probes are never
 -- more than the least p with 2^p at least n; it ends with low below n, whose start is at most the address if the first start is, and with
--- high one above low, whose start is above the address unless high is n. `Halfway` is what code that halves keeps true from turn to turn.
+-- high one above low, whose start is above the address unless high is n. What code that halves keeps true from turn to turn is `Halfway`,
+-- and `Probing` where it carries the place to probe next; what it knows of where it ended is `Places`.
 -- Assumes nothing.
 use mathlib.Core.Path.{_≡_, refl, sym, ap, _∙_}
 use mathlib.Core.Bool.{Bool, true, false, cond}
