@@ -44,7 +44,7 @@ def public_functions(crate):
 
 
 everywhere = declared([*CRATES.glob("*/specs/**/*.antt"), *CRATES.glob("*/proofs/**/*.antt")])
-edits = {file.stem for file in CRATES.glob("*/must-fail/*.edit")}
+edits = {file.stem for file in [*CRATES.glob("*/must-fail/*.edit"), *(ROOT / "tests" / "edits").glob("*/*.edit")]}
 
 for name in sorted(name for name in NAMED if re.fullmatch(r"[\w]+(-[\w]+)+", name)):
     check(f"the theorem {name} is declared", name in everywhere)
