@@ -8,11 +8,11 @@ use native.Mathlib.Omega.{arith}
 use Rattle.routes.specs.declared.Looked.{Looked}
 use Rattle.routes.specs.declared.Looked.the-variants as L
 use Rattle.routes.specs.Lookup.{lookupGave}
-use Rattle.runs.specs.declared.Probed.{Probed}
-use Rattle.runs.specs.declared.Probed.the-variants as P
+use Rattle.lookup.specs.declared.Probed.{Probed}
+use Rattle.lookup.specs.declared.Probed.the-variants as P
 use Rattle.runs.specs.declared.Built.{Built}
 use Rattle.runs.specs.declared.Built.the-variants as B
-use Rattle.runs.specs.Lookup.{runLookupGave}
+use Rattle.lookup.specs.Lookup.{runLookupGave}
 use Rattle.runs.specs.Build.{BuildOutcome, buildGave}
 use Rattle.segment.specs.declared.PackedHop.{PackedHop}
 use Rattle.segment.specs.declared.PackedHop.the-variants as H

@@ -15,7 +15,7 @@ use Rattle.feed.specs.declared.Counts.{Counts}
 use Rattle.feed.specs.Counts.{rowsWith}
 use Rattle.feed.specs.Import.{ImportOutcome}
 use Rattle.runs.specs.Build.{BuildOutcome}
-use Rattle.runs.specs.Lookup.{RunLookupOutcome}
+use Rattle.lookup.specs.Lookup.{RunLookupOutcome}
 use Rattle.segment.specs.Pack.{PackOutcome}
 use Rattle.edit.specs.Edit.{Edited, editOutcome}
 use Rattle.split.specs.Split.{SplitOutcome}

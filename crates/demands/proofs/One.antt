@@ -32,13 +32,13 @@ use Rattle.feed.proofs.Promise.{rows-are-taken-replaced-refused, rows-are-all-r
 use Rattle.feed.proofs.TallyPromise.{tally-is-counts, tally-untouched}
 use Rattle.runs.specs.declared.Built.{Built}
 use Rattle.runs.specs.declared.Paired.{Paired}
-use Rattle.runs.specs.declared.Probed.{Probed}
-use Rattle.runs.specs.declared.Held.{Held}
+use Rattle.lookup.specs.declared.Probed.{Probed}
+use Rattle.lookup.specs.declared.Held.{Held}
 use Rattle.runs.specs.Table.{RunsLent}
 use Rattle.runs.specs.Build.{SlotsLent, BuildOutcome, built, buildGave, buildOf, buildChecks}
-use Rattle.runs.specs.Bytes.{hopAt}
-use Rattle.runs.specs.Lookup.{RunLookupOutcome, probed, runLookupGave, runLookup, runChecks}
-use Rattle.runs.specs.Lookup.{BytesLookupOutcome, held, bytesLookupGave, bytesLookup, bytesChecks}
+use Rattle.lookup.specs.Bytes.{hopAt}
+use Rattle.lookup.specs.Lookup.{RunLookupOutcome, probed, runLookupGave, runLookup, runChecks}
+use Rattle.lookup.specs.Lookup.{BytesLookupOutcome, held, bytesLookupGave, bytesLookup, bytesChecks}
 use Rattle.runs.specs.Pair.{Pair, pairGave, pairCheck, pairChecks}
 use Rattle.text.specs.declared.Written.{Written}
 use Rattle.text.specs.Text.{WriteOutcome, wrote, writeGave, write, writeChecks}

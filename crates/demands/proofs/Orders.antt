@@ -14,7 +14,7 @@ use Rattle.why.specs.Text.{whyTextChecks}
 use Rattle.runs.specs.Table.{RunsLent}
 use Rattle.runs.specs.Build.{SlotsLent, buildChecks}
 use Rattle.runs.specs.Pair.{Pair, pairChecks}
-use Rattle.runs.specs.Lookup.{runChecks, bytesChecks}
+use Rattle.lookup.specs.Lookup.{runChecks, bytesChecks}
 use Rattle.segment.specs.Pack.{PackLent, packChecks}
 use Rattle.segment.specs.Lookup.{SegmentLent, packedChecks}
 use Rattle.edit.specs.Edit.{announceChecks, withdrawChecks}

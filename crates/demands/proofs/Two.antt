@@ -27,18 +27,18 @@ use Rattle.routes.proofs.LookupOutcome.{plain-accepted}
 use Rattle.routes.specs.Lookup.{LookupOutcome, lookedUp, lookupGave, plainLookup, lookupChecks}
 use Rattle.routes.proofs.Plain.{NoMatch, Longest, plain-cases}
 use Rattle.runs.specs.declared.Built.the-variants.{Runs}
-use Rattle.runs.specs.declared.Probed.{Probed}
-use Rattle.runs.specs.declared.Held.{Held}
-use Rattle.runs.specs.declared.Held.the-variants.{Hop}
+use Rattle.lookup.specs.declared.Probed.{Probed}
+use Rattle.lookup.specs.declared.Held.{Held}
+use Rattle.lookup.specs.declared.Held.the-variants.{Hop}
 use Rattle.runs.specs.Table.{runsLent, runStarts, runHops}
-use Rattle.runs.specs.Bytes.{runBytes, startAt}
+use Rattle.lookup.specs.Bytes.{runBytes, startAt}
 use Rattle.runs.specs.Build.{SlotsLent, BuildOutcome, built, buildGave, build, buildOf, buildChecks}
-use Rattle.runs.specs.Lookup.{runLookupGave, runLookup, BytesLookupOutcome, bytesLookupGave, bytesLookup}
+use Rattle.lookup.specs.Lookup.{runLookupGave, runLookup, BytesLookupOutcome, bytesLookupGave, bytesLookup}
 use Rattle.runs.specs.Pair.{Pair, listOf}
-use Rattle.runs.proofs.Found.{lastIn}
-use Rattle.runs.proofs.Lookups.{bytes-lookup-plain}
-use Rattle.runs.proofs.HoldsUntil.{HoldsUntil, holds-as, bytes-hold-until}
-use Rattle.runs.proofs.BuildThenLookup.{build-then-lookup, build-then-holds}
+use Rattle.lookup.proofs.Found.{lastIn}
+use Rattle.lookup.proofs.Lookups.{bytes-lookup-plain}
+use Rattle.lookup.proofs.HoldsUntil.{HoldsUntil, holds-as, bytes-hold-until}
+use Rattle.lookup.proofs.BuildThenLookup.{build-then-lookup, build-then-holds}
 use Rattle.edit.proofs.EditKeepsPair.{same-count}
 use Rattle.segment.specs.declared.Packing.the-variants.{Done}
 use Rattle.segment.specs.declared.PackedHop.{PackedHop}

@@ -27,9 +27,9 @@ use Rattle.feed.specs.Import.{ImportLent, ImportOutcome, importGave, import, im
 use Rattle.feed.proofs.Promise.{left-is-imported}
 use Rattle.runs.specs.Table.{runsLent, runStarts, runHops}
 use Rattle.runs.specs.Build.{SlotsLent, BuildOutcome, built, build, buildOf, buildChecks, runRoom}
-use Rattle.runs.specs.Lookup.{RunLookupOutcome, runLookup, runChecks}
-use Rattle.runs.proofs.Lookups.{run-lookup-plain}
-use Rattle.runs.proofs.HoldsUntil.{HoldsUntil, holds-until}
+use Rattle.lookup.specs.Lookup.{RunLookupOutcome, runLookup, runChecks}
+use Rattle.lookup.proofs.Lookups.{run-lookup-plain}
+use Rattle.lookup.proofs.HoldsUntil.{HoldsUntil, holds-until}
 use Rattle.edit.proofs.EditKeepsPair.{same-count}
 use Rattle.c_answers.specs.declared.WhelkCounts.{WhelkCounts}
 use Rattle.c_answers.specs.Exports.{hostImportGave, countsIn, BuildForC, buildGaveC, builtForC, buildForC}

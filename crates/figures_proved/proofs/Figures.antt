@@ -30,8 +30,8 @@ use Rattle.runs.proofs.TableOutcomes.{build-fits}
 use Rattle.why.specs.Why.{placesOf, placeOf, reasonFor, whyChecks, why}
 use Rattle.why.specs.Text.{whyTextOf, whyTextChecks, whyText}
 use Rattle.edit.specs.Edit.{badPrefix, announceChecks, announce, withdrawChecks, withdraw}
-use Rattle.runs.specs.Bytes.{runBytes, startAt, hopAt}
-use Rattle.runs.specs.Lookup.{lastOf, inSlices, runChecks, runLookup, inBytes, bytesChecks, bytesLookup}
+use Rattle.lookup.specs.Bytes.{runBytes, startAt, hopAt}
+use Rattle.lookup.specs.Lookup.{lastOf, inSlices, runChecks, runLookup, inBytes, bytesChecks, bytesLookup}
 use Rattle.c_answers.specs.Exports.{lookupForC, runLookupForC, probedForC, writtenForC}
 use Rattle.host.specs.Exports.{heldChecks, heldForC}
 use Rattle.segment.specs.Packed.{width, blockHop, bit, wordFrom, wordsFor, codeWords, wordsOf, basesFrom, basesOf, keptHops, packedHopsOf}

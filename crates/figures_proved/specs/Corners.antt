@@ -24,9 +24,9 @@ use Rattle.feed.specs.LastRow.{lastHop, hopListed}
 use Rattle.runs.specs.Table.{runsLent}
 use Rattle.runs.specs.Build.{slotsLent, build, buildHalf}
 use Rattle.runs.specs.Pair.{Pair, pair}
-use Rattle.runs.specs.Bytes.{runBytes}
+use Rattle.lookup.specs.Bytes.{runBytes}
 use Rattle.edit.specs.Edit.{announce, withdraw}
-use Rattle.runs.specs.Lookup.{runLookup, bytesLookup}
+use Rattle.lookup.specs.Lookup.{runLookup, bytesLookup}
 use Rattle.c_answers.specs.Exports.{lookupForC, runLookupForC, probedForC, writtenForC, whyForC}
 use Rattle.host.specs.Exports.{heldForC}
 use Rattle.segment.specs.Packed.{width, wordsOf, basesOf, packedHopsOf}

@@ -16,10 +16,10 @@ use Rattle.ground.specs.Slots.{written}
 use Rattle.ground.proofs.Truth.{decided, cond-false}
 use Rattle.ground.proofs.Numbers.{outcome-here, outcome-later, outcome-last, accepted-fault, no-fault}
 use Rattle.routes.specs.Lookup.{lookedUp}
-use Rattle.runs.specs.declared.Held.{Held}
-use Rattle.runs.specs.declared.Held.the-variants as H
-use Rattle.runs.specs.Lookup.{BytesLookupOutcome, held, bytesLookupGave, bytesChecks, bytesLookup}
-use Rattle.runs.proofs.LookupOutcomes.{bytes-looked-up}
+use Rattle.lookup.specs.declared.Held.{Held}
+use Rattle.lookup.specs.declared.Held.the-variants as H
+use Rattle.lookup.specs.Lookup.{BytesLookupOutcome, held, bytesLookupGave, bytesChecks, bytesLookup}
+use Rattle.lookup.proofs.LookupOutcomes.{bytes-looked-up}
 use Rattle.c_answers.specs.Exports.{lookupForC, addressBytes}
 use Rattle.host.specs.Exports.{heldChecks, heldGaveC, heldForC}
 

@@ -11,7 +11,7 @@ use Rattle.ground.specs.Slots.{written}
 use Rattle.routes.specs.Lookup.{lookedUp}
 use Rattle.feed.specs.declared.Counts.{Counts}
 use Rattle.feed.specs.Import.{ImportLent, import, importTally}
-use Rattle.runs.specs.Lookup.{bytesChecks, bytesLookup}
+use Rattle.lookup.specs.Lookup.{bytesChecks, bytesLookup}
 use Rattle.c_answers.specs.Exports.{lookupForC, addressBytes}
 
 -- Rules 4.9 and 7.10: what C gets from an import with a lent tally, and what that leaves. Its number and the three slices are those of

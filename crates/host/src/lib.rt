@@ -12,7 +12,7 @@ ghost use Rattle.routes.specs.Row.{listLent};
 ghost use Rattle.routes.specs.Lookup.{plainLookup, halfLookup};
 ghost use Rattle.runs.specs.Table.{runsLent};
 ghost use Rattle.runs.specs.Build.{slotsLent, build, buildHalf};
-ghost use Rattle.runs.specs.Lookup.{runLookup};
+ghost use Rattle.lookup.specs.Lookup.{runLookup};
 ghost use Rattle.runs.specs.Pair.{pair};
 ghost use Rattle.segment.specs.Pack.{packLent, pack};
 ghost use Rattle.segment.specs.Lookup.{segmentLent, packedLookup};
@@ -33,7 +33,7 @@ use c_answers::parted_for_c;
 use c_answers::probed_for_c;
 use c_answers::put_address;
 use c_answers::written_for_c;
-use runs::Held;
+use lookup::Held;
 
 // Rule 4.1: import of a feed into lent keys, hops and report.
 #[no_mangle]
@@ -63,7 +63,7 @@ pub extern "C" fn whelk_plain_lookup(count: usize, keys: &[u64], hops: &[u16], a
 pub extern "C" fn whelk_run_lookup(bytes: &[u8], a: u32, out: &mut [u8]) -> u32
     ensures { λ r. ⌜ heldGaveC r (now (out .exit)) ≡ heldForC (now (bytes .entry)) a (now (out .entry)) ⌝ }
 {
-    match runs::bytes_lookup(bytes, a) {
+    match lookup::bytes_lookup(bytes, a) {
         Held::Hop { hop, last } => {
             if out.len() < 4 {
                 return LOOKUP_NO_ROOM;
@@ -88,7 +88,7 @@ pub extern "C" fn whelk_run_lookup_slices(
         ⌜ probedGaveC r (now (out .exit))
         ≡ probedForC (runLookup (runsLent n (now (starts .entry)) (now (hops .entry))) a) (now (out .entry)) ⌝ }
 {
-    probed_for_c(runs::run_lookup(n, starts, hops, a), out)
+    probed_for_c(lookup::run_lookup(n, starts, hops, a), out)
 }
 
 // Rule 6.6: the run table of a list into lent starts and hops.

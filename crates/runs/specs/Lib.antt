@@ -1,6 +1,4 @@
 pub mod Table
 pub mod Build
 pub mod Pair
-pub mod Bytes
-pub mod Lookup
 pub mod Inside

@@ -14,11 +14,11 @@ use Rattle.routes.specs.Plain.{plain}
 use Rattle.routes.specs.Lookup.{plainLookup}
 use Rattle.routes.specs.declared.Looked.the-variants.{Hop}
 use Rattle.runs.specs.declared.Built.the-variants.{Runs}
-use Rattle.runs.specs.declared.Probed.{Probed}
+use Rattle.lookup.specs.declared.Probed.{Probed}
 use Rattle.runs.specs.Table.{runsLent}
 use Rattle.runs.specs.Build.{SlotsLent, buildGave, buildHalf}
-use Rattle.runs.specs.Lookup.{runLookupGave, runLookup}
-use Rattle.runs.proofs.BuildThenLookup.{build-half-then-lookup, build-half-then-holds}
+use Rattle.lookup.specs.Lookup.{runLookupGave, runLookup}
+use Rattle.lookup.proofs.BuildThenLookup.{build-half-then-lookup, build-half-then-holds}
 use Rattle.split.specs.declared.Parted.the-variants.{Rows}
 use Rattle.split.specs.Split.{firstHalf, secondHalf, SplitLent, splitGave, split}
 use Rattle.split.proofs.SplitThenLookup.{first-is, second-is, split-then-lookup}

@@ -3,7 +3,7 @@
 -- Assumes nothing.
 use native.Mathlib.Omega.{arith}
 use borrow.Author.Needs.{needs}
-use Rattle.runs.proofs.LookupOutcomes.{run-probes-at-most}
+use Rattle.lookup.proofs.LookupOutcomes.{run-probes-at-most}
 use Rattle.host.proofs.whelk_run_lookup_slices.Statement.{statement}
 use Rattle.host.proofs.whelk_run_lookup_slices.Tie as tie
 

@@ -1,11 +1,11 @@
--- `runs::start_at` meets its contract: the four bytes lie in the slice, and `start_of` takes them high byte first.
+-- `lookup::start_at` meets its contract: the four bytes lie in the slice, and `start_of` takes them high byte first.
 -- Assumes nothing.
 use mathlib.Core.Path.{_∙_}
 use native.Mathlib.Nat.{add-zero}
 use borrow.Author.Needs.{needs}
-use Rattle.runs.specs.Bytes.{startAt}
-use Rattle.runs.proofs.start_at.Statement.{statement}
-use Rattle.runs.proofs.start_at.Tie as tie
+use Rattle.lookup.specs.Bytes.{startAt}
+use Rattle.lookup.proofs.start_at.Statement.{statement}
+use Rattle.lookup.proofs.start_at.Tie as tie
 
 mul-at : tie.Need-mul-at
 mul-at c = search needs

@@ -1,10 +1,10 @@
--- `runs::last_before` meets its contract, case by case: high is n, or it is a place, and its start is above 0.
+-- `lookup::last_before` meets its contract, case by case: high is n, or it is a place, and its start is above 0.
 -- Assumes nothing.
 use native.Mathlib.Omega.{arith}
 use borrow.Author.Needs.{needs}
-use Rattle.runs.proofs.LookupOutcomes.{last-of-all, last-before}
-use Rattle.runs.proofs.last_before.Statement.{statement}
-use Rattle.runs.proofs.last_before.Tie as tie
+use Rattle.lookup.proofs.LookupOutcomes.{last-of-all, last-before}
+use Rattle.lookup.proofs.last_before.Statement.{statement}
+use Rattle.lookup.proofs.last_before.Tie as tie
 
 returns : tie.Need-returns
 returns c = last-of-all _ _ _ (omega arith)

@@ -9,10 +9,10 @@ use lib.ListN.{length, getD}
 use Rattle.ground.specs.Numbers.{firstFault, done}
 use Rattle.halving.proofs.Halving.{low-below, low-at-most, high-next, high-at-most, high-above, halving-agrees}
 use Rattle.cidr.specs.Prefix.{addresses}
 use Rattle.runs.specs.Table.{RunTable}
-use Rattle.runs.specs.Bytes.{runBytes, startAt, hopAt}
-use Rattle.runs.specs.Lookup.{lastOf, inSlices, held, inBytes, bytesChecks, bytesLookup}
-use Rattle.runs.proofs.LookupOutcomes.{last-agrees, sixes-accepted, bytes-looked-up}
+use Rattle.lookup.specs.Bytes.{runBytes, startAt, hopAt}
+use Rattle.lookup.specs.Lookup.{lastOf, inSlices, held, inBytes, bytesChecks, bytesLookup}
+use Rattle.lookup.proofs.LookupOutcomes.{last-agrees, sixes-accepted, bytes-looked-up}
 
 -- the last address of the run that is found in a whole table
 abbrev pub lastIn : List ℕ → ℕ → ℕ

@@ -1,9 +1,9 @@
--- `runs::lowered` meets its contract: where the start is above the address it isn't 0, so one less is a number.
+-- `lookup::lowered` meets its contract: where the start is above the address it isn't 0, so one less is a number.
 -- Assumes nothing.
 use native.Mathlib.Omega.{arith}
 use borrow.Author.Needs.{needs}
-use Rattle.runs.proofs.lowered.Statement.{statement}
-use Rattle.runs.proofs.lowered.Tie as tie
+use Rattle.lookup.proofs.lowered.Statement.{statement}
+use Rattle.lookup.proofs.lowered.Tie as tie
 
 sub-result : tie.Need-sub-result
 sub-result c = omega (arith, c .before .pre (c .if1 .taken))

@@ -13,9 +13,9 @@ use Rattle.halving.specs.Narrowed.{Narrowed}
 use Rattle.halving.specs.Ended.{ended}
 use Rattle.halving.proofs.Halving.{halved-places}
 use Rattle.halving.proofs.Turning.{Turning, turning-start, turning-bounds, turning-turn, turning-last, turning-ended}
-use Rattle.runs.specs.Lookup.{lastOf}
-use Rattle.runs.specs.Inside.Reached.{ReachedBy}
-use Rattle.runs.proofs.LookupOutcomes.{last-of-all, last-before}
+use Rattle.lookup.specs.Lookup.{lastOf}
+use Rattle.lookup.specs.Inside.Reached.{ReachedBy}
+use Rattle.lookup.proofs.LookupOutcomes.{last-of-all, last-before}
 
 -- with no turn left, and the last place probed
 module _ {at : ℕ → ℕ} {n a turns place low high left : ℕ} (t : Turning at n a turns place low high left) (over : left ≡ 0) {h : Halved}

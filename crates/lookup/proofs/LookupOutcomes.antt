@@ -13,15 +13,15 @@ use Rattle.ground.specs.Numbers.{firstFault, outcome, done, illFormed}
 use Rattle.ground.proofs.Truth.{or-right}
 use Rattle.ground.proofs.Numbers.{outcome-done, outcome-refused}
 use Rattle.halving.proofs.Halving.{low-below, probes-at-most}
-use Rattle.runs.specs.declared.Probed.{Probed}
-use Rattle.runs.specs.declared.Probed.the-variants as P
-use Rattle.runs.specs.declared.Held.{Held}
-use Rattle.runs.specs.declared.Held.the-variants as H
+use Rattle.lookup.specs.declared.Probed.{Probed}
+use Rattle.lookup.specs.declared.Probed.the-variants as P
+use Rattle.lookup.specs.declared.Held.{Held}
+use Rattle.lookup.specs.declared.Held.the-variants as H
 use Rattle.runs.specs.Table.{RunsLent}
-use Rattle.runs.specs.Bytes.{startAt, hopAt}
-use Rattle.runs.specs.Lookup.{lastOf, RunLookupOutcome, probed, runLookupGave, inSlices, runChecks, runLookup}
-use Rattle.runs.specs.Lookup.{BytesLookupOutcome, held, bytesLookupGave, inBytes, bytesChecks, bytesLookup}
-use Rattle.runs.specs.Inside.Reached.{ReachedBy}
+use Rattle.lookup.specs.Bytes.{startAt, hopAt}
+use Rattle.lookup.specs.Lookup.{lastOf, RunLookupOutcome, probed, runLookupGave, inSlices, runChecks, runLookup}
+use Rattle.lookup.specs.Lookup.{BytesLookupOutcome, held, bytesLookupGave, inBytes, bytesChecks, bytesLookup}
+use Rattle.lookup.specs.Inside.Reached.{ReachedBy}
 
 -- the last address: of the last run, and of another
 module _ (at : ℕ → ℕ) (n high : ℕ) where

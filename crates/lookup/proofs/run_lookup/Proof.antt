@@ -1,10 +1,10 @@
--- `runs::run_lookup` meets its contract: `in_slices` gives where halving ends, and low is a place below the count.
+-- `lookup::run_lookup` meets its contract: `in_slices` gives where halving ends, and low is a place below the count.
 -- Assumes nothing.
 use native.Mathlib.Omega.{arith}
 use borrow.Author.Needs.{needs}
-use Rattle.runs.proofs.LookupOutcomes.{reached-low, no-runs, beyond-slices, runs-accepted, refused, found}
-use Rattle.runs.proofs.run_lookup.Statement.{statement}
-use Rattle.runs.proofs.run_lookup.Tie as tie
+use Rattle.lookup.proofs.LookupOutcomes.{reached-low, no-runs, beyond-slices, runs-accepted, refused, found}
+use Rattle.lookup.proofs.run_lookup.Statement.{statement}
+use Rattle.lookup.proofs.run_lookup.Tie as tie
 
 returns : tie.Need-returns
 returns c = refused _ _ (no-runs _ (omega arith))

@@ -9,12 +9,12 @@ use lib.Dec.{ltb, eqb}
 use Rattle.ground.specs.Numbers.{Check, check, outcome, done, illFormed}
 use Rattle.halving.specs.Halving.{Halved, halving}
 use Rattle.cidr.specs.Prefix.{dotted}
-use Rattle.runs.specs.declared.Probed.{Probed}
-use Rattle.runs.specs.declared.Probed.the-variants as P
-use Rattle.runs.specs.declared.Held.{Held}
-use Rattle.runs.specs.declared.Held.the-variants as H
+use Rattle.lookup.specs.declared.Probed.{Probed}
+use Rattle.lookup.specs.declared.Probed.the-variants as P
+use Rattle.lookup.specs.declared.Held.{Held}
+use Rattle.lookup.specs.declared.Held.the-variants as H
 use Rattle.runs.specs.Table.{RunsLent}
-use Rattle.runs.specs.Bytes.{startAt, hopAt}
+use Rattle.lookup.specs.Bytes.{startAt, hopAt}
 
 -- Rule 7.4: the last address of the run found is one less than the start at high, or 255.255.255.255 if high is n. `at` gives the start at
 -- a place.

@@ -1,10 +1,10 @@
--- `runs::bytes_lookup` meets its contract, as `run_lookup` does, over the starts and hops that the bytes give.
+-- `lookup::bytes_lookup` meets its contract, as `run_lookup` does, over the starts and hops that the bytes give.
 -- Assumes nothing.
 use native.Mathlib.Omega.{arith}
 use borrow.Author.Needs.{needs}
-use Rattle.runs.proofs.LookupOutcomes.{reached-low, no-bytes, no-sixes, sixes-accepted, bytes-refused, bytes-held}
-use Rattle.runs.proofs.bytes_lookup.Statement.{statement}
-use Rattle.runs.proofs.bytes_lookup.Tie as tie
+use Rattle.lookup.proofs.LookupOutcomes.{reached-low, no-bytes, no-sixes, sixes-accepted, bytes-refused, bytes-held}
+use Rattle.lookup.proofs.bytes_lookup.Statement.{statement}
+use Rattle.lookup.proofs.bytes_lookup.Tie as tie
 
 returns : tie.Need-returns
 returns c = bytes-refused _ _ (no-bytes _ (omega arith))

@@ -13,12 +13,12 @@ use Rattle.halving.proofs.Halving.{halving-agrees, high-at-most}
 use Rattle.cidr.specs.Prefix.{addresses}
 use Rattle.routes.specs.Row.{Row}
 use Rattle.routes.specs.Plain.{plain}
 use Rattle.runs.specs.Table.{RunTable, runsLent, runStarts, runHops}
-use Rattle.runs.specs.Bytes.{runBytes}
-use Rattle.runs.specs.Lookup.{inSlices, runChecks, runLookup, held, bytesLookup}
+use Rattle.lookup.specs.Bytes.{runBytes}
+use Rattle.lookup.specs.Lookup.{inSlices, runChecks, runLookup, held, bytesLookup}
 use Rattle.runs.proofs.Table.{table-of}
-use Rattle.runs.proofs.Found.{lastIn, place-found, hop-found, bytes-answer}
-use Rattle.runs.proofs.LookupOutcomes.{last-agrees, runs-accepted, accepted}
+use Rattle.lookup.proofs.Found.{lastIn, place-found, hop-found, bytes-answer}
+use Rattle.lookup.proofs.LookupOutcomes.{last-agrees, runs-accepted, accepted}
 
 module _ {f : ℕ → ℕ} {runs ans : List ℕ} (t : RunTable f runs ans) (starts hops : List ℕ) (s : take (length runs) starts ≡ runs)
     (h : take (length runs) hops ≡ ans) where

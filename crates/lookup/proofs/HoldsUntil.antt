@@ -14,13 +14,13 @@ use Rattle.halving.proofs.Halving.{high-next}
 use Rattle.cidr.specs.Prefix.{addresses}
 use Rattle.routes.specs.Row.{Row}
 use Rattle.routes.specs.Plain.{plain}
 use Rattle.runs.specs.Table.{RunTable, runsLent, runStarts, runHops}
-use Rattle.runs.specs.Bytes.{runBytes, startAt}
-use Rattle.runs.specs.Lookup.{inSlices, runLookup, inBytes, bytesLookup}
+use Rattle.lookup.specs.Bytes.{runBytes, startAt}
+use Rattle.lookup.specs.Lookup.{inSlices, runLookup, inBytes, bytesLookup}
 use Rattle.runs.proofs.Table.{table-of}
-use Rattle.runs.proofs.Found.{lastIn, RunHolds, place-found, start-at, bytes-found}
-use Rattle.runs.proofs.LookupOutcomes.{last-of-all, last-before}
-use Rattle.runs.proofs.Lookups.{run-lookup-last, run-lookup-start, bytes-lookup-plain}
+use Rattle.lookup.proofs.Found.{lastIn, RunHolds, place-found, start-at, bytes-found}
+use Rattle.lookup.proofs.LookupOutcomes.{last-of-all, last-before}
+use Rattle.lookup.proofs.Lookups.{run-lookup-last, run-lookup-start, bytes-lookup-plain}
 
 -- f is the same from a to `last`, and another past it
 pub record HoldsUntil (f : ℕ → ℕ) (a last : ℕ) : Type 0 where

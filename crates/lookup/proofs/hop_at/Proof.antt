@@ -1,9 +1,9 @@
--- `runs::hop_at` meets its contract: the two bytes lie in the slice, and `hop_of` takes them high byte first.
+-- `lookup::hop_at` meets its contract: the two bytes lie in the slice, and `hop_of` takes them high byte first.
 -- Assumes nothing.
 use borrow.Author.Needs.{needs}
-use Rattle.runs.specs.Bytes.{hopAt}
-use Rattle.runs.proofs.hop_at.Statement.{statement}
-use Rattle.runs.proofs.hop_at.Tie as tie
+use Rattle.lookup.specs.Bytes.{hopAt}
+use Rattle.lookup.proofs.hop_at.Statement.{statement}
+use Rattle.lookup.proofs.hop_at.Tie as tie
 
 mul-at : tie.Need-mul-at
 mul-at c = search needs

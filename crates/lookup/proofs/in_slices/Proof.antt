@@ -1,13 +1,13 @@
--- `runs::in_slices` meets its contract. The loop keeps `Turning` true: halving is halfway, and the turns that are left are as many as high
+-- `lookup::in_slices` meets its contract. The loop keeps `Turning` true: halving is halfway, and the turns that are left are as many as high
 -- and low still need. The measure is how many turns are left.
 -- Assumes nothing.
 use native.Mathlib.Omega.{arith}
 use borrow.Author.Needs.{needs}
 use lib.ListN.{getD}
 use Rattle.halving.proofs.Turning.{Turning, turning-start, turning-bounds, turning-turn, turning-end}
-use Rattle.runs.proofs.Reaching.{reached-high, reached}
-use Rattle.runs.proofs.in_slices.Statement.{statement}
-use Rattle.runs.proofs.in_slices.Tie as tie
+use Rattle.lookup.proofs.Reaching.{reached-high, reached}
+use Rattle.lookup.proofs.in_slices.Statement.{statement}
+use Rattle.lookup.proofs.in_slices.Tie as tie
 
 abbrev Inv-loop : tie.InvT-loop
 Inv-loop n starts a turns s₀ left₀ s left = Turning (λ i. getD starts i 0) n a turns (s .place) (s .low) (s .high) left

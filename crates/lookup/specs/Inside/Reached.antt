@@ -4,7 +4,7 @@
 use mathlib.Core.Path.{_≡_}
 use Prim.Native.Nat.{ℕ}
 use Rattle.halving.specs.Halving.{halving}
-use Rattle.runs.specs.Lookup.{lastOf}
+use Rattle.lookup.specs.Lookup.{lastOf}
 
 pub record ReachedBy (at : ℕ → ℕ) (n a low last probes : ℕ) : Type 0 where
   pub low-is : low ≡ halving at n a .low

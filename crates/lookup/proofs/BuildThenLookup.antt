@@ -19,14 +19,14 @@ use Rattle.routes.specs.WellFormed.{formed}
 use Rattle.routes.specs.Plain.{plain}
 use Rattle.routes.specs.Lookup.{LookupOutcome, lookupGave, lookupChecks, plainLookup, halfChecks, halfLookup}
 use Rattle.routes.specs.declared.Looked.{Looked}
 use Rattle.runs.specs.declared.Built.the-variants.{Runs}
-use Rattle.runs.specs.declared.Probed.{Probed}
+use Rattle.lookup.specs.declared.Probed.{Probed}
 use Rattle.runs.specs.Table.{runsLent, runStarts, runHops, startsOf, runHopsOf}
 use Rattle.runs.specs.Build.{SlotsLent, BuildOutcome, built, buildGave, buildOf, build, buildHalf}
-use Rattle.runs.specs.Lookup.{RunLookupOutcome, runLookupGave, runLookup}
-use Rattle.runs.proofs.Lookups.{run-lookup-plain}
-use Rattle.runs.proofs.HoldsUntil.{HoldsUntil, holds-as, holds-until}
+use Rattle.lookup.specs.Lookup.{RunLookupOutcome, runLookupGave, runLookup}
+use Rattle.lookup.proofs.Lookups.{run-lookup-plain}
+use Rattle.lookup.proofs.HoldsUntil.{HoldsUntil, holds-as, holds-until}
 use Rattle.runs.proofs.TableOutcomes.{build-ill, build-well, rows-done}
 
 same-count : (rows : List Row) → length (runHops rows) ≡ length (runStarts rows)
 unfolding runHops runHopsOf runStarts

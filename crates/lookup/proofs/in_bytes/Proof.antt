@@ -1,14 +1,14 @@
--- `runs::in_bytes` meets its contract. The loop keeps `Reaching` true, over the starts that the bytes give: halving is halfway, and what is
+-- `lookup::in_bytes` meets its contract. The loop keeps `Reaching` true, over the starts that the bytes give: halving is halfway, and what is
 -- kept is the last address before high. The measure is how many turns are left.
 -- Assumes nothing.
 use native.Mathlib.Omega.{arith}
 use borrow.Author.Needs.{needs}
 use borrow.Author.Tests.{ltb-true}
-use Rattle.runs.specs.Bytes.{startAt}
+use Rattle.lookup.specs.Bytes.{startAt}
 use Rattle.halving.proofs.Turning.{turning-end}
-use Rattle.runs.proofs.Reaching.{reached, Reaching, reaching-start, reaching-bounds, reaching-turn, reaching-last}
-use Rattle.runs.proofs.in_bytes.Statement.{statement}
-use Rattle.runs.proofs.in_bytes.Tie as tie
+use Rattle.lookup.proofs.Reaching.{reached, Reaching, reaching-start, reaching-bounds, reaching-turn, reaching-last}
+use Rattle.lookup.proofs.in_bytes.Statement.{statement}
+use Rattle.lookup.proofs.in_bytes.Tie as tie
 
 abbrev Inv-loop : tie.InvT-loop
 Inv-loop n bytes a turns s₀ last₀ left₀ s last left =
