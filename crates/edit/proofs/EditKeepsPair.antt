@@ -17,12 +17,11 @@ use Rattle.routes.specs.WellFormed.{wellFormed}
 use Rattle.routes.proofs.WellFormed.{parts-good}
 use Rattle.routes.proofs.ListTest.{half-room}
 use Rattle.routes.proofs.Columns.{rows-of-columns}
-use Rattle.routes.specs.Plain.{plain}
 use Rattle.runs.specs.Table.{runsLent, runStarts, runHops}
 use Rattle.runs.specs.Build.{runRoom}
 use Rattle.runs.specs.Pair.{Pair, pair, listOf, itsRuns, pairCheck}
 use Rattle.runs.proofs.Agreed.{agreed-half, agreed-room}
-use Rattle.runs.proofs.Table.{table-of}
+use Rattle.runs.proofs.Table.{same-count}
 use Rattle.runs.proofs.TableOutcomes.{pair-agreed}
 use Rattle.edit.specs.Edit.{Edited, announce, withdraw}
 use Rattle.edit.proofs.Accepted.{Accepted, announce-accepted, withdraw-accepted}
@@ -30,10 +29,6 @@ use Rattle.edit.proofs.Accepted.{Accepted, announce-accepted, withdraw-
 -- the pair that an edit leaves
 abbrev pub edited : Edited → Pair
 edited o = pair (listLent (o .count) (o .keys) (o .hops)) (runsLent (o .runs) (o .starts) (o .rhops))
-
-pub same-count : (rows : List Row) → length (runHops rows) ≡ length (runStarts rows)
-unfolding runHops runStarts
-same-count rows = table-of (plain rows) .paired
 
 module _ {k : ℕ} {after : List Row} {p : Pair} {o : Edited} (a : Accepted k after p o) where
   pub left-rows : listOf (edited o) ≡ after

@@ -16,10 +16,11 @@ use Rattle.runs.specs.Table.{runStarts, runHops}
 use Rattle.runs.specs.Build.{SlotsLent, BuildOutcome, built, build, runRoom}
 use Rattle.runs.specs.Pair.{Pair}
 use Rattle.runs.specs.Inside.Rows.{buildRows}
+use Rattle.runs.proofs.Table.{same-count}
 use Rattle.runs.proofs.TableOutcomes.{build-well}
 use Rattle.edit.specs.Edit.{Edited, announce, withdraw}
 use Rattle.edit.proofs.Accepted.{Accepted, announce-accepted, withdraw-accepted}
-use Rattle.edit.proofs.EditKeepsPair.{edited, same-count, left-rows, left-well, left-runs, left-starts, left-hops}
+use Rattle.edit.proofs.EditKeepsPair.{edited, left-rows, left-well, left-runs, left-starts, left-hops}
 
 -- a build gave what an edit left
 pub record Rebuilt (o : Edited) (b : BuildOutcome) : Type 0 where

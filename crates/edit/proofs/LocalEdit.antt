@@ -20,12 +20,13 @@ use Rattle.runs.specs.Pair.{Pair, listOf, pairCheck}
 use Rattle.runs.proofs.Agreed.{agreed-half, agreed-keys, agreed-starts, agreed-hops}
 use Rattle.runs.proofs.WholeList.{slices-rows, slices-sorted}
 use Rattle.sweep.specs.Sweep.{allRows, Sorted}
-use Rattle.edit.specs.declared.hops.Found.{Found}
-use Rattle.edit.specs.declared.plan.Plan.{Plan}
+use Rattle.plan.specs.declared.hops.Found.{Found}
+use Rattle.plan.specs.declared.Plan.{Plan}
 use Rattle.edit.specs.Edit.{editOutcome, editRefused, exceeds}
-use Rattle.edit.specs.Inside.Found.{FoundIn}
-use Rattle.edit.specs.Inside.Local.{editedRows, editAgreed}
-use Rattle.edit.specs.Inside.Plan.{Planned}
+use Rattle.plan.specs.Found.{FoundIn}
+use Rattle.plan.specs.Edited.{editedRows}
+use Rattle.edit.specs.Inside.Local.{editAgreed}
+use Rattle.plan.specs.Plan.{Planned}
 use Rattle.edit.specs.Inside.Writing.{MayWrite, Wrote}
 use Rattle.edit.proofs.Outcomes.{agreed-unlisted, agreed-full, agreed-fits}
 

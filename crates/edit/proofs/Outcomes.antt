@@ -19,8 +19,9 @@ use Rattle.runs.specs.Pair.{Pair, listOf, pairIll, itsRuns, pairChecks, pairChe
 use Rattle.runs.proofs.TableOutcomes.{pair-agrees, pair-is-ill, pair-is-other}
 use Rattle.edit.specs.Edit.{Edited, editRefused, editDone, badPrefix, exceeds}
 use Rattle.edit.specs.Edit.{announce, announceChecks, afterAnnounce, withdraw, withdrawChecks, afterWithdraw}
-use Rattle.edit.specs.Inside.Local.{editedRows, localChecks, editAgreed, editPair}
-use Rattle.edit.proofs.Edited.{edited-withdrawn, edited-announced}
+use Rattle.plan.specs.Edited.{editedRows}
+use Rattle.edit.specs.Inside.Local.{localChecks, editAgreed, editPair}
+use Rattle.plan.proofs.Edited.{edited-withdrawn, edited-announced}
 
 -- the pair's checks
 module _ (k h : ℕ) (p : Pair) where

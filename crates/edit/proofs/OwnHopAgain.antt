@@ -26,11 +26,11 @@ use Rattle.runs.specs.Table.{runStarts, runHops}
 use Rattle.runs.specs.Build.{runRoom}
 use Rattle.runs.specs.Pair.{Pair, listOf, pairChecks, pairCheck}
 use Rattle.runs.proofs.Agreed.{agreed-half, agreed-room, agreed-keys, agreed-starts, agreed-hops}
+use Rattle.runs.proofs.Table.{same-count}
 use Rattle.runs.proofs.TableOutcomes.{pair-agrees}
 use Rattle.runs.proofs.WholeList.{in-keys, in-hops}
 use Rattle.edit.specs.Edit.{Edited, editDone, badPrefix, exceeds, announce, announceChecks, afterAnnounce}
 use Rattle.edit.proofs.Accepted.{agreed-good}
-use Rattle.edit.proofs.EditKeepsPair.{same-count}
 
 -- an accepted edit that changes nothing
 abbrev pub unchanged : Pair → Edited

@@ -20,17 +20,17 @@ use Rattle.runs.specs.Pair.{Pair, listOf}
 use Rattle.runs.proofs.Agreed.{agreed-half, agreed-room}
 use Rattle.runs.proofs.WholeList.{in-keys, in-hops, in-starts, in-rhops, slices-rows, slices-sorted}
 use Rattle.sweep.specs.Sweep.{allRows, answer, Sorted, From}
-use Rattle.edit.specs.declared.hops.Found.{Found}
-use Rattle.edit.specs.declared.plan.Plan.{Plan}
+use Rattle.plan.specs.declared.hops.Found.{Found}
+use Rattle.plan.specs.declared.Plan.{Plan}
 use Rattle.edit.specs.Edit.{exceeds}
 use Rattle.within.specs.Own.{inner}
-use Rattle.edit.specs.Inside.Found.{FoundIn}
-use Rattle.edit.specs.Inside.Local.{editedRows}
-use Rattle.edit.specs.Inside.Splice.{startsInside, newStarts, newHops, Splices, Spliced}
+use Rattle.plan.specs.Found.{FoundIn}
+use Rattle.plan.specs.Edited.{editedRows}
+use Rattle.plan.specs.Splice.{startsInside, newStarts, newHops, Splices, Spliced}
 use Rattle.edit.specs.Inside.Writing.{MayWrite, Wrote}
 use Rattle.edit.proofs.Accepted.{fit}
 use Rattle.within.proofs.InnerPlaces.{inner-places, inner-part, inner-sorted}
-use Rattle.edit.proofs.Planning.{part-from}
+use Rattle.plan.proofs.Planning.{part-from}
 
 -- a part that ends within the front of a slice
 part-of-front : (f u n : ℕ) (xs : List ℕ) → f ≤ u → u ≤ n → take (u - f) (drop f (take n xs)) ≡ take (u - f) (drop f xs)

@@ -12,17 +12,17 @@ ghost use Rattle.runs.specs.Table.{runsLent};
 ghost use Rattle.runs.specs.Build.{runRoom};
 ghost use Rattle.runs.specs.Pair.{pair, pairCheck};
 ghost use Rattle.edit.specs.Edit.{editGave};
-ghost use Rattle.edit.specs.Inside.Found.{FoundIn};
+ghost use Rattle.plan.specs.Found.{FoundIn};
 ghost use Rattle.edit.specs.Inside.Local.{editAgreed};
-ghost use Rattle.edit.specs.Inside.Plan.{Planned};
+ghost use Rattle.plan.specs.Plan.{Planned};
 ghost use Rattle.edit.specs.Inside.Writing.{MayWrite, Wrote};
 use crate::Edit;
-use crate::hops::Found;
-use crate::hops::find;
-use crate::list::write_row;
-use crate::plan::Plan;
-use crate::plan::plan_edit;
-use crate::table::splice_runs;
+use plan::Plan;
+use plan::hops::Found;
+use plan::hops::find;
+use plan::list::write_row;
+use plan::plan_edit;
+use plan::table::splice_runs;
 
 // Rule 10.5: whether so many rows exceed the list's room, or so many runs the run table's.
 fn exceeds(

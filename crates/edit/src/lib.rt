@@ -1,11 +1,6 @@
 // One edit of a list and its run table: announce and withdraw, and the exact number of addresses that get another answer. An edit checks
-// the pair first; what it does to a pair that agrees is local work, in `agreed`.
+// the pair first; what it does to a pair that agrees is local work, in `agreed`, by the plan of `plan`.
 pub mod agreed;
-mod hops;
-mod joins;
-mod list;
-mod plan;
-mod table;
 
 ghost use mathlib.Core.Bool.{true};
 ghost use mathlib.Core.Path.{_≡_};

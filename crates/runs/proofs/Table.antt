@@ -20,7 +20,7 @@ use Rattle.cidr.specs.Prefix.{addresses, network, endOf}
 use Rattle.cidr.proofs.Turn.{holds-stays}
 use Rattle.routes.specs.Row.{Row, those}
 use Rattle.routes.specs.Plain.{matching, plain}
-use Rattle.runs.specs.Table.{RunTable, startsOf, runHopsOf, runStarts}
+use Rattle.runs.specs.Table.{RunTable, startsOf, runHopsOf, runStarts, runHops}
 use Rattle.runs.specs.Table.Laws.{starts-are}
 
 -- the numbers at which f turns are the starts of a run table of f
@@ -84,6 +84,10 @@ turns-of-table f starts hops t = record {
 pub table-of : (f : ℕ → ℕ) → RunTable f (startsOf f) (runHopsOf f)
 unfolding runHopsOf
 table-of f = rw starts-are (table-of-turns f _ (picks (turns f) 0 addresses))
+
+pub same-count : (rows : List Row) → length (runHops rows) ≡ length (runStarts rows)
+unfolding runHops runStarts
+same-count rows = table-of (plain rows) .paired
 
 pub only-table : (f : ℕ → ℕ) (starts hops : List ℕ) → RunTable f starts hops → (starts ≡ startsOf f) × (hops ≡ runHopsOf f)
 unfolding runHopsOf

@@ -1,19 +1,15 @@
 -- One edit of a prefix that is one, without its first check, and of a pair that agrees, without the pair's checks: rules 10.4 and 10.5 are
 -- what is left to check then. Hop 0 stands for a withdrawal.
 -- Assumes nothing.
-use mathlib.Core.Bool.{cond, not, _&&_}
+use mathlib.Core.Bool.{not, _&&_}
 use mathlib.Core.List.{List, [], _∷_, _++_}
 use Prim.Native.Nat.{ℕ}
 use lib.Dec.{eqb}
 use Rattle.ground.specs.Numbers.{Check, check, outcome, notListed, noRoom}
-use Rattle.routes.specs.Row.{Row}
-use Rattle.routes.specs.Change.{listed, announced, withdrawn}
+use Rattle.routes.specs.Change.{listed}
 use Rattle.runs.specs.Pair.{Pair, listOf, pairChecks}
+use Rattle.plan.specs.Edited.{editedRows}
 use Rattle.edit.specs.Edit.{Edited, editRefused, editDone, exceeds}
-
--- the list after the edit
-unfoldable pub editedRows : ℕ → ℕ → List Row → List Row
-editedRows k h rows = cond (eqb h 0) (withdrawn k rows) (announced k h rows)
 
 unfoldable pub localChecks : ℕ → ℕ → Pair → List Check
 localChecks k h p =

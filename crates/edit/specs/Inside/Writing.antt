@@ -12,12 +12,12 @@ use Rattle.cidr.specs.Prefix.{isPrefix}
 use Rattle.routes.specs.Row.{keysOf, hopsOf}
 use Rattle.runs.specs.Table.{runStarts, runHops}
 use Rattle.runs.specs.Pair.{Pair, listOf, pairCheck}
-use Rattle.edit.specs.declared.hops.Found.{Found}
-use Rattle.edit.specs.declared.plan.Plan.{Plan}
+use Rattle.plan.specs.declared.hops.Found.{Found}
+use Rattle.plan.specs.declared.Plan.{Plan}
 use Rattle.edit.specs.Edit.{exceeds}
-use Rattle.edit.specs.Inside.Found.{FoundIn}
-use Rattle.edit.specs.Inside.Local.{editedRows}
-use Rattle.edit.specs.Inside.Plan.{Planned}
+use Rattle.plan.specs.Found.{FoundIn}
+use Rattle.plan.specs.Edited.{editedRows}
+use Rattle.plan.specs.Plan.{Planned}
 
 pub record MayWrite (k h : ℕ) (f : Found) (plan : Plan) (p : Pair) : Type 0 where
   pub prefix : isPrefix k ≡ true

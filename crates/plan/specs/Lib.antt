@@ -1,0 +1,5 @@
+pub mod Edited
+pub mod Found
+pub mod Splice
+pub mod Joints
+pub mod Plan
