@@ -9,8 +9,8 @@ use borrow.Author.Tests.{lt-ltb, le-ltb}
 use Rattle.ground.specs.Numbers.{firstFault, outcome, done, illFormed, noRoom}
 use Rattle.routes.specs.Row.{Row, ListLent, rowsLent}
 use Rattle.routes.specs.WellFormed.{wellFormed}
-use Rattle.clue.specs.Entries.{clues, inKeyOrder, EntriesLent}
-use Rattle.clue.specs.Build.{badLength, tooLong, entryRoom, made, entriesIn, entriesChecks, buildEntries}
+use Rattle.entries.specs.Entries.{clues, inKeyOrder, EntriesLent, tooLong, entryRoom, entriesIn}
+use Rattle.clue.specs.Build.{badLength, made, entriesChecks, buildEntries}
 
 module _ (l : ListLent) (lengths addresses : List ℕ) (e : EntriesLent) where
   pub build-long : tooLong lengths addresses ≡ true → made badLength 0 e ≡ buildEntries l lengths addresses e

@@ -10,7 +10,7 @@ use Rattle.ground.specs.Numbers.{done, illFormed}
 use Rattle.routes.specs.Row.{ListLent}
 use Rattle.clue.specs.declared.Entered.{Entered}
 use Rattle.clue.specs.declared.Entered.the-variants as E
-use Rattle.clue.specs.Entries.{EntriesLent}
+use Rattle.entries.specs.Entries.{EntriesLent}
 use Rattle.clue.specs.Build.{badLength, EntriesOutcome, entriesGave, buildEntries}
 
 abbrev enteredBy : EntriesOutcome → Entered

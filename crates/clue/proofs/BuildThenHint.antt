@@ -15,7 +15,7 @@ use Rattle.routes.specs.Lookup.{LookupOutcome, lookupGave, plainLookup}
 use Rattle.clue.specs.declared.Entered.the-variants as E
 use Rattle.clue.specs.declared.Hinted.{Hinted}
 use Rattle.clue.specs.declared.Told.{Told}
-use Rattle.clue.specs.Entries.{EntriesLent, entriesLent, itsEntries}
+use Rattle.entries.specs.Entries.{EntriesLent, entriesLent, itsEntries}
 use Rattle.clue.specs.Build.{entriesGave, buildEntries}
 use Rattle.clue.specs.Lookup.{hintGave, hintLookup}
 use Rattle.clue.specs.Quick.{quickGave, quickLookup}

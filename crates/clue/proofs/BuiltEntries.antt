@@ -18,13 +18,13 @@ use Rattle.cidr.specs.Prefix.{addresses}
 use Rattle.routes.specs.Row.{Row, ListLent, rowsLent}
 use Rattle.routes.specs.WellFormed.{wellFormed}
 use Rattle.clue.specs.declared.Entered.the-variants as E
-use Rattle.clue.specs.Clue.{clueOf}
-use Rattle.clue.specs.Entries.{clues, inKeyOrder, entryHops, entryMarks, EntriesLent, entriesLent, allKeys, itsEntries}
-use Rattle.clue.specs.Build.{tooLong, entryRoom, EntriesOutcome, made, entriesGave, entriesIn, buildEntries}
-use Rattle.clue.proofs.Decided.{decided, and-both}
-use Rattle.clue.proofs.KeyOrder.{in-order-ascends, in-order-has, in-order-keys, clues-keys}
-use Rattle.clue.proofs.Clues.{clues-length, clues-at}
-use Rattle.clue.proofs.Writing.{hops-many, marks-many}
+use Rattle.entries.specs.Clue.{clueOf}
+use Rattle.entries.specs.Entries.{clues, inKeyOrder, entryHops, entryMarks, EntriesLent, entriesLent, allKeys, itsEntries, tooLong, entryRoom, entriesIn}
+use Rattle.clue.specs.Build.{EntriesOutcome, made, entriesGave, buildEntries}
+use Rattle.entries.proofs.Decided.{decided, and-both}
+use Rattle.entries.proofs.KeyOrder.{in-order-ascends, in-order-has, in-order-keys, clues-keys}
+use Rattle.entries.proofs.Clues.{clues-length, clues-at}
+use Rattle.entries.proofs.Writing.{hops-many, marks-many}
 use Rattle.clue.proofs.BuildOutcomes.{build-long, build-ill, build-full, build-done}
 
 same-self : (xs : List ℕ) → same xs xs ≡ true

@@ -15,9 +15,9 @@ use Rattle.routes.specs.Row.{Row, row, rowsOf, keysOf, hopsOf, every, those, Li
 use Rattle.routes.specs.WellFormed.{prefixes, hopsGiven, ascending, halfRows, goodRows, wellFormed}
 use Rattle.routes.specs.Plain.{matching, longer, longest, plain}
 use Rattle.halving.specs.Halving.{halves, halving}
-use Rattle.clue.specs.Clue.{clueOf, around, hopAround, extends, any, extended}
-use Rattle.clue.specs.Entries.{clues, entered, inKeyOrder, mark, entryHops, entryMarks, EntriesLent, entriesLent, allKeys, itsEntries}
-use Rattle.clue.specs.Build.{tooLong, entryRoom, EntriesOutcome, made, entriesIn, entriesChecks, buildEntries}
+use Rattle.entries.specs.Clue.{clueOf, around, hopAround, extends, any, extended}
+use Rattle.entries.specs.Entries.{clues, entered, inKeyOrder, mark, entryHops, entryMarks, EntriesLent, entriesLent, allKeys, itsEntries, tooLong, entryRoom, entriesIn}
+use Rattle.clue.specs.Build.{EntriesOutcome, made, entriesChecks, buildEntries}
 use Rattle.clue.specs.Lookup.{isFinal, storedHop, hintChecks, hintLookup}
 use Rattle.clue.specs.Quick.{quickPlace, quickFinal, quickLookup}
 

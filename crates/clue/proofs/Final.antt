@@ -13,9 +13,9 @@ use Rattle.cidr.specs.Prefix.{lengthOf, isPrefix, holds, covers}
 use Rattle.routes.specs.Row.{Row, those, every}
 use Rattle.routes.specs.WellFormed.{prefixes}
 use Rattle.routes.specs.Plain.{matching, longest, hopOf, plain}
-use Rattle.clue.specs.Clue.{clueOf, around, hopAround, extends, any, extended}
-use Rattle.clue.proofs.Decided.{decided, never-both, and-left, and-right, or-neither}
-use Rattle.clue.proofs.Clue.{prefix-parts, clue-length, covers-clue, longer-extends}
+use Rattle.entries.specs.Clue.{clueOf, around, hopAround, extends, any, extended}
+use Rattle.entries.proofs.Decided.{decided, never-both, and-left, and-right, or-neither}
+use Rattle.entries.proofs.Clue.{prefix-parts, clue-length, covers-clue, longer-extends}
 
 module _ (len a : ℕ) (short : len ≤ 32) where
   -- a prefix that doesn't extend the clue holds the clue exactly if it holds the address

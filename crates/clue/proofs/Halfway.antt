@@ -12,8 +12,8 @@ use lib.Dec.{leb, ltb}
 use borrow.Author.Tests.{ltb-true, ltb-false, leb-true, leb-false, le-leb, lt-leb}
 use Rattle.ground.specs.Column.{ascends}
 use Rattle.halving.specs.Halving.{halves, halving}
-use Rattle.clue.proofs.Decided.{decided}
-use Rattle.clue.proofs.Keys.{Order, order, ascends-at}
+use Rattle.entries.proofs.Decided.{decided}
+use Rattle.entries.proofs.Keys.{Order, order, ascends-at}
 
 module _ (at : ℕ → ℕ) (k : ℕ) where
   near : (turns low high : ℕ) → high - low ≤ 1 → halves turns at k low high .low ≡ low

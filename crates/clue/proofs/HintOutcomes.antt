@@ -12,11 +12,11 @@ use Rattle.routes.specs.WellFormed.{wellFormed}
 use Rattle.routes.specs.Plain.{plain}
 use Rattle.routes.specs.declared.Place.the-variants.{At, Missing}
 use Rattle.routes.specs.Place.{placeIn}
-use Rattle.clue.specs.Clue.{clueOf}
-use Rattle.clue.specs.Entries.{EntriesLent, itsEntries}
+use Rattle.entries.specs.Clue.{clueOf}
+use Rattle.entries.specs.Entries.{EntriesLent, itsEntries}
 use Rattle.clue.specs.Build.{badLength}
 use Rattle.clue.specs.Lookup.{hinted, notItsEntries, isFinal, storedHop, hintChecks, hintLookup}
-use Rattle.clue.proofs.Places.{at-in, missing-out}
+use Rattle.entries.proofs.Places.{at-in, missing-out}
 
 module _ (l : ListLent) (e : EntriesLent) (len a : ℕ) where
   pub hint-long : 32 < len → hintLookup l e len a ≡ hinted badLength 0 false

@@ -16,11 +16,11 @@ use Rattle.routes.specs.Plain.{plain}
 use Rattle.routes.specs.declared.Looked.{Looked}
 use Rattle.routes.specs.Lookup.{LookupOutcome, lookedUp, lookupGave, lookupChecks, plainLookup}
 use Rattle.clue.specs.declared.Hinted.{Hinted}
-use Rattle.clue.specs.Clue.{clueOf}
-use Rattle.clue.specs.Entries.{EntriesLent, itsEntries}
+use Rattle.entries.specs.Clue.{clueOf}
+use Rattle.entries.specs.Entries.{EntriesLent, itsEntries}
 use Rattle.clue.specs.Build.{badLength}
 use Rattle.clue.specs.Lookup.{HintOutcome, hintGave, notItsEntries, isFinal, hintLookup}
-use Rattle.clue.proofs.Decided.{decided}
+use Rattle.entries.proofs.Decided.{decided}
 use Rattle.clue.proofs.HintOutcomes.{hint-long, hint-ill, hint-other, hint-final, hint-searched}
 use Rattle.clue.proofs.Stored.{final-stored}
 

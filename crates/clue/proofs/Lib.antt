@@ -1,14 +1,3 @@
-mod Decided
-mod Truth
-mod HostBits
-mod Clue
-mod Keys
-mod Places
-mod Rows
-mod Cut
-mod Around
-mod Extension
-mod EntryTest
 mod Halfway
 mod Turning
 mod HintOutcomes
@@ -18,12 +7,6 @@ mod Stored
 pub mod HintThenLookup
 pub mod QuickThenLookup
 pub mod LookupSettled
-pub mod KeyOrder
-mod Least
-mod Clues
-mod Searching
-mod Along
-mod Writing
 mod BuildOutcomes
 pub mod BuildSettled
 pub mod BuiltEntries

@@ -11,7 +11,7 @@ use Rattle.clue.specs.declared.Hinted.{Hinted}
 use Rattle.clue.specs.declared.Hinted.the-variants as H
 use Rattle.clue.specs.declared.Told.{Told}
 use Rattle.clue.specs.declared.Told.the-variants as T
-use Rattle.clue.specs.Entries.{EntriesLent}
+use Rattle.entries.specs.Entries.{EntriesLent}
 use Rattle.clue.specs.Build.{badLength}
 use Rattle.clue.specs.Lookup.{HintOutcome, hintGave, hintLookup}
 use Rattle.clue.specs.Quick.{QuickOutcome, quickGave, quickLookup}

@@ -8,12 +8,11 @@ use native.Mathlib.Omega.{arith}
 use lib.ListN.{length, getD}
 use borrow.Author.Tests.{lt-ltb, le-ltb, le-leb, lt-leb, eq-eqb, ne-eqb}
 use Rattle.halving.specs.Halving.{halving}
-use Rattle.clue.specs.Clue.{clueOf}
-use Rattle.clue.specs.Entries.{EntriesLent}
-use Rattle.clue.specs.Build.{entryRoom}
+use Rattle.entries.specs.Clue.{clueOf}
+use Rattle.entries.specs.Entries.{EntriesLent, entryRoom}
 use Rattle.clue.specs.Quick.{said, quickPlace, quickFinal, quickLookup}
-use Rattle.clue.proofs.Decided.{and-both}
-use Rattle.clue.proofs.Truth.{cond-true, cond-false}
+use Rattle.entries.proofs.Decided.{and-both}
+use Rattle.entries.proofs.Truth.{cond-true, cond-false}
 
 module _ (e : EntriesLent) where
   pub room-within : (entryRoom e ≤ length (e .keys)) × (entryRoom e ≤ length (e .hops)) × (entryRoom e ≤ length (e .marks))

@@ -17,16 +17,15 @@ use Rattle.routes.specs.WellFormed.{wellFormed}
 use Rattle.routes.specs.Plain.{plain}
 use Rattle.clue.specs.declared.Told.{Told}
 use Rattle.clue.specs.declared.Hinted.{Hinted}
-use Rattle.clue.specs.Clue.{clueOf}
-use Rattle.clue.specs.Entries.{EntriesLent, itsEntries}
-use Rattle.clue.specs.Build.{entryRoom}
+use Rattle.entries.specs.Clue.{clueOf}
+use Rattle.entries.specs.Entries.{EntriesLent, itsEntries, entryRoom}
 use Rattle.clue.specs.Lookup.{HintOutcome, hintGave, isFinal, storedHop, hintLookup}
 use Rattle.clue.specs.Quick.{QuickOutcome, said, quickGave, quickPlace, quickFinal, quickLookup}
-use Rattle.clue.proofs.Decided.{decided, never-both, and-left, and-right, and-both}
-use Rattle.clue.proofs.Truth.{same-test}
-use Rattle.clue.proofs.Keys.{placed-in, at-place}
+use Rattle.entries.proofs.Decided.{decided, never-both, and-left, and-right, and-both}
+use Rattle.entries.proofs.Truth.{same-test}
+use Rattle.entries.proofs.Keys.{placed-in, at-place}
 use Rattle.clue.proofs.Halfway.{halving-below, halving-finds}
-use Rattle.clue.proofs.EntryTest.{its-ascend, its-hops-count, its-marks-count}
+use Rattle.entries.proofs.EntryTest.{its-ascend, its-hops-count, its-marks-count}
 use Rattle.clue.proofs.Stored.{stored-plain, final-listed, final-place, final-mark}
 use Rattle.clue.proofs.QuickOutcomes.{room-within, quick-found}
 use Rattle.clue.proofs.HintOutcomes.{hint-final, hint-searched}

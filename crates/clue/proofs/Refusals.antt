@@ -8,9 +8,9 @@ use Prim.Native.Nat.{ℕ}
 use lib.Dec.{eqb}
 use Rattle.ground.specs.Numbers.{Check, firstFault, checkOrder, outcome, past, inOrder, done}
 use Rattle.routes.specs.Row.{ListLent}
-use Rattle.clue.specs.Entries.{EntriesLent}
+use Rattle.entries.specs.Entries.{EntriesLent}
 use Rattle.clue.specs.Build.{EntriesOutcome, made, entriesChecks, buildEntries}
-use Rattle.clue.specs.Clue.{clueOf}
+use Rattle.entries.specs.Clue.{clueOf}
 use Rattle.clue.specs.Lookup.{HintOutcome, hinted, isFinal, hintChecks, hintLookup}
 
 module _ (l : ListLent) (lengths addrs : List ℕ) (e : EntriesLent) where

@@ -13,12 +13,12 @@ use Rattle.ground.specs.Slots.{same}
 use Rattle.ground.specs.Column.{isIn, lower}
 use Rattle.routes.specs.Row.{Row}
 use Rattle.routes.specs.Plain.{plain}
-use Rattle.clue.specs.Clue.{clueOf, hopAround, extended}
-use Rattle.clue.specs.Entries.{mark, EntriesLent, entryHops, entryMarks, itsEntries}
+use Rattle.entries.specs.Clue.{clueOf, hopAround, extended}
+use Rattle.entries.specs.Entries.{mark, EntriesLent, entryHops, entryMarks, itsEntries}
 use Rattle.clue.specs.Lookup.{isFinal, storedHop}
-use Rattle.clue.proofs.Decided.{never-both, and-left, and-right}
-use Rattle.clue.proofs.Keys.{at-place}
-use Rattle.clue.proofs.EntryTest.{its-ascend, same-hops, same-marks}
+use Rattle.entries.proofs.Decided.{never-both, and-left, and-right}
+use Rattle.entries.proofs.Keys.{at-place}
+use Rattle.entries.proofs.EntryTest.{its-ascend, same-hops, same-marks}
 use Rattle.clue.proofs.Final.{final-is-plain}
 
 -- numbers that are the same as what a function makes of a list

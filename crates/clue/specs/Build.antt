@@ -1,32 +1,21 @@
 -- Rules 19.3 and 19.4: a build makes the entries of a list for lent clues. It returns 15 for a length above 32, 11 for a list that isn't
 -- well-formed, 13 for more entries than room, and else 0 and the number of entries.
 -- Assumes nothing.
-use mathlib.Core.Bool.{Bool, false, not, _||_}
+use mathlib.Core.Bool.{not}
 use mathlib.Core.List.{List, [], _∷_}
-use Prim.Native.Nat.{ℕ, min}
+use Prim.Native.Nat.{ℕ}
 use lib.ListN.{length}
 use lib.Dec.{ltb}
 use Rattle.ground.specs.Numbers.{Check, check, outcome, done, illFormed, noRoom}
-use Rattle.ground.specs.Slots.{written}
-use Rattle.routes.specs.Row.{Row, ListLent, rowsLent}
+use Rattle.routes.specs.Row.{ListLent, rowsLent}
 use Rattle.routes.specs.WellFormed.{wellFormed}
-use Rattle.clue.specs.Entries.{clues, inKeyOrder, entryHops, entryMarks, EntriesLent, entriesLent}
+use Rattle.entries.specs.Entries.{clues, tooLong, inKeyOrder, EntriesLent, entriesLent, entryRoom, entriesIn}
 use Rattle.clue.specs.declared.Entered.{Entered}
 use Rattle.clue.specs.declared.Entered.the-variants as E
 
 -- 15: a length is above 32
 abbrev pub badLength : ℕ
 badLength = 15
-
--- Rule 19.4: a length that counts is above 32. A length without an address doesn't count.
-unfoldable pub tooLong : List ℕ → List ℕ → Bool
-tooLong [] addresses = false
-tooLong (len ∷ lengths) [] = false
-tooLong (len ∷ lengths) (a ∷ addresses) = ltb 32 len || tooLong lengths addresses
-
--- Rule 19.4: the room of three entry slices is the length of the shortest.
-unfoldable pub entryRoom : EntriesLent → ℕ
-entryRoom e = min (length (e .keys)) (min (length (e .hops)) (length (e .marks)))
 
 -- what a build returns and leaves: its number, how many entries, and the three slices
 pub record EntriesOutcome : Type 0 where
@@ -43,11 +32,6 @@ entriesGave (E.Entries n) keys hops marks = made done n (entriesLent keys hops m
 entriesGave E.BadLength keys hops marks = made badLength 0 (entriesLent keys hops marks)
 entriesGave E.IllFormed keys hops marks = made illFormed 0 (entriesLent keys hops marks)
 entriesGave E.NoRoom keys hops marks = made noRoom 0 (entriesLent keys hops marks)
-
--- Rule 19.3: entries at the front of three slices, with the slots behind them as they were.
-unfoldable pub entriesIn : List Row → List ℕ → EntriesLent → EntriesLent
-entriesIn rows keys e =
-    entriesLent (written keys (e .keys)) (written (entryHops rows keys) (e .hops)) (written (entryMarks rows keys) (e .marks))
 
 -- Rule 19.4: the checks of a build.
 unfoldable pub entriesChecks : ListLent → List ℕ → List ℕ → EntriesLent → List Check

@@ -12,8 +12,8 @@ use Rattle.ground.specs.Column.{isIn, lower}
 use Rattle.routes.specs.Row.{Row, ListLent, rowsLent}
 use Rattle.routes.specs.WellFormed.{wellFormed}
 use Rattle.routes.specs.Plain.{plain}
-use Rattle.clue.specs.Clue.{clueOf}
-use Rattle.clue.specs.Entries.{EntriesLent, itsEntries}
+use Rattle.entries.specs.Clue.{clueOf}
+use Rattle.entries.specs.Entries.{EntriesLent, itsEntries}
 use Rattle.clue.specs.Build.{badLength}
 use Rattle.clue.specs.declared.Hinted.{Hinted}
 use Rattle.clue.specs.declared.Hinted.the-variants as H

@@ -7,9 +7,8 @@ use Prim.Native.Nat.{ℕ}
 use lib.ListN.{getD}
 use lib.Dec.{ltb, leb, eqb}
 use Rattle.halving.specs.Halving.{halving}
-use Rattle.clue.specs.Clue.{clueOf}
-use Rattle.clue.specs.Entries.{EntriesLent}
-use Rattle.clue.specs.Build.{entryRoom}
+use Rattle.entries.specs.Clue.{clueOf}
+use Rattle.entries.specs.Entries.{EntriesLent, entryRoom}
 use Rattle.clue.specs.declared.Told.{Told}
 use Rattle.clue.specs.declared.Told.the-variants as T
 

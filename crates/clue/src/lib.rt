@@ -1,9 +1,6 @@
 // Hints from a neighbour, for a router that is told the length of its neighbour's best match with each address: entries for such clues,
 // built from a list, and lookups that are final where no listed prefix extends the clue. It stands on what prefixes, the list and
 // lookups by halving promise, and cites no law of the crates below.
-mod entry;
-mod order;
-
 ghost use mathlib.Core.Path.{_≡_};
 ghost use mathlib.Core.Bool.{true};
 ghost use Prim.Native.Nat.{_≤_, _<_};
@@ -11,10 +8,12 @@ ghost use lib.ListN.{length, getD};
 ghost use Rattle.halving.specs.Halving.{halving};
 ghost use Rattle.routes.specs.Row.{listLent, rowsOf};
 ghost use Rattle.routes.specs.WellFormed.{wellFormed};
-ghost use Rattle.clue.specs.Entries.{entriesLent, itsEntries};
-ghost use Rattle.clue.specs.Build.{tooLong, entriesGave, buildEntries};
+ghost use Rattle.entries.specs.Entries.{entriesLent, itsEntries, tooLong};
+ghost use Rattle.clue.specs.Build.{entriesGave, buildEntries};
 ghost use Rattle.clue.specs.Lookup.{hintGave, hintLookup};
 ghost use Rattle.clue.specs.Quick.{quickGave, quickLookup};
+use entries::entry;
+use entries::order;
 use routes::Place;
 
 // What a build of entries gives: how many there are, 15, 11, or 13.

@@ -10,7 +10,7 @@ use Rattle.clue.specs.declared.Hinted.{Hinted}
 use Rattle.clue.specs.declared.Hinted.the-variants as H
 use Rattle.clue.specs.declared.Told.{Told}
 use Rattle.clue.specs.declared.Told.the-variants as T
-use Rattle.clue.specs.Entries.{mark, entriesLent}
+use Rattle.entries.specs.Entries.{mark, entriesLent}
 use Rattle.clue.specs.Build.{EntriesOutcome, made, entriesGave}
 use Rattle.clue.specs.Lookup.{hintGave}
 use Rattle.clue.specs.Quick.{quickGave}

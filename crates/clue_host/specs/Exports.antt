@@ -2,7 +2,7 @@
 -- Assumes nothing.
 use mathlib.Core.List.{List}
 use Prim.Native.Nat.{ℕ, _+_, _*_}
-use Rattle.clue.specs.Entries.{mark, entriesLent}
+use Rattle.entries.specs.Entries.{mark, entriesLent}
 use Rattle.clue.specs.Build.{EntriesOutcome, made}
 use Rattle.clue.specs.Lookup.{HintOutcome}
 use Rattle.clue.specs.Quick.{QuickOutcome}

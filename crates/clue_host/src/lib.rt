@@ -4,7 +4,7 @@ ghost use Rattle.clue_host.specs.Exports.{hostEntriesGave, hintForC, qui
 ghost use mathlib.Core.Path.{_≡_};
 ghost use mathlib.Core.List.{[]};
 ghost use Rattle.routes.specs.Row.{listLent};
-ghost use Rattle.clue.specs.Entries.{entriesLent};
+ghost use Rattle.entries.specs.Entries.{entriesLent};
 ghost use Rattle.clue.specs.Build.{made, entriesGave, buildEntries};
 ghost use Rattle.clue.specs.Lookup.{hintGave, hintLookup};
 ghost use Rattle.clue.specs.Quick.{quickGave, quickLookup};

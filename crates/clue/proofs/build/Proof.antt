@@ -11,10 +11,9 @@ use denote.Ref.{now}
 use borrow.Author.Needs.{needs}
 use borrow.Author.Tests.{leb-true, leb-false, not-true, not-false}
 use Rattle.routes.specs.WellFormed.{wellFormed}
-use Rattle.clue.specs.Entries.{clues, inKeyOrder, entriesLent}
-use Rattle.clue.specs.Build.{tooLong, entryRoom}
-use Rattle.clue.specs.Inside.Order.{climbs}
-use Rattle.clue.proofs.Cut.{list-test, cut-keys, cut-hops, cut-list, cut-well}
+use Rattle.entries.specs.Entries.{clues, inKeyOrder, entriesLent, tooLong, entryRoom}
+use Rattle.entries.specs.Order.{climbs}
+use Rattle.entries.proofs.Cut.{list-test, cut-keys, cut-hops, cut-list, cut-well}
 use Rattle.clue.proofs.BuildOutcomes.{build-long, build-ill, build-full, build-done}
 use Rattle.clue.proofs.build.Statement.{statement}
 use Rattle.clue.proofs.build.Tie as tie

@@ -8,8 +8,8 @@ use native.Mathlib.Omega.{arith}
 use lib.ListN.{length}
 use borrow.Author.Needs.{needs}
 use borrow.Author.Tests.{not-true, not-false}
-use Rattle.clue.proofs.Rows.{allRows}
-use Rattle.clue.proofs.EntryTest.{hops-differ, marks-differ, Walk, walk-start, walk-end, walk-fails, walk-stops, walk-last, walk-next}
+use Rattle.entries.proofs.Rows.{allRows}
+use Rattle.entries.proofs.EntryTest.{hops-differ, marks-differ, Walk, walk-start, walk-end, walk-fails, walk-stops, walk-last, walk-next}
 use Rattle.clue.proofs.entries_ok.Statement.{statement}
 use Rattle.clue.proofs.entries_ok.Tie as tie
 

@@ -14,12 +14,12 @@ use Rattle.ground.specs.Numbers.{done}
 use Rattle.routes.specs.Row.{ListLent, listLent, rowsLent}
 use Rattle.routes.specs.WellFormed.{wellFormed}
 use Rattle.routes.specs.Place.{placeIn}
-use Rattle.clue.specs.Clue.{clueOf, hopAround}
-use Rattle.clue.specs.Entries.{EntriesLent, entriesLent, itsEntries}
+use Rattle.entries.specs.Clue.{clueOf, hopAround}
+use Rattle.entries.specs.Entries.{EntriesLent, entriesLent, itsEntries}
 use Rattle.clue.specs.Lookup.{hinted, isFinal}
-use Rattle.clue.proofs.Cut.{list-test, cut-keys, cut-hops, cut-list, cut-well}
-use Rattle.clue.proofs.Rows.{well-prefixes}
-use Rattle.clue.proofs.EntryTest.{its-ascend, its-place}
+use Rattle.entries.proofs.Cut.{list-test, cut-keys, cut-hops, cut-list, cut-well}
+use Rattle.entries.proofs.Rows.{well-prefixes}
+use Rattle.entries.proofs.EntryTest.{its-ascend, its-place}
 use Rattle.clue.proofs.Final.{search-is-plain}
 use Rattle.clue.proofs.HintOutcomes.{hint-long, hint-ill, hint-other, hint-final, hint-searched, final-at, marked-at, stored-at, none-at}
 use Rattle.clue.proofs.lookup.Statement.{statement}

@@ -5,9 +5,8 @@ use Prim.Native.Nat.{_<_}
 use native.Mathlib.Omega.{arith}
 use denote.Ref.{now}
 use borrow.Author.Needs.{needs}
-use Rattle.clue.specs.Clue.{clueOf}
-use Rattle.clue.specs.Entries.{EntriesLent, entriesLent}
-use Rattle.clue.specs.Build.{entryRoom}
+use Rattle.entries.specs.Clue.{clueOf}
+use Rattle.entries.specs.Entries.{EntriesLent, entriesLent, entryRoom}
 use Rattle.clue.specs.Quick.{quickPlace}
 use Rattle.clue.proofs.QuickOutcomes.{room-within, quick-empty, quick-long, quick-place, quick-other, quick-marked, quick-found}
 use Rattle.clue.proofs.quick.Statement.{statement}

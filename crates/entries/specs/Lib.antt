@@ -1,0 +1,3 @@
+pub mod Clue
+pub mod Entries
+pub mod Order
