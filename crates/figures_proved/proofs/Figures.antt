@@ -37,8 +37,9 @@ use Rattle.host.specs.Exports.{heldChecks, heldForC}
 use Rattle.segment.specs.Packed.{width, blockHop, bit, wordFrom, wordsFor, codeWords, wordsOf, basesFrom, basesOf, keptHops, packedHopsOf}
 use Rattle.segment.specs.Lookup.{blockOf, onesTo, pastPlace, packedChecks, packedLookup}
 use Rattle.split.specs.Split.{covering, relabelled, firstHalf, secondHalf, splitChecks, split}
-use Rattle.text.specs.Text.{decimalBy, decimal, dottedText, rowText, textOf, writeChecks, write}
-use Rattle.text.specs.Program.{lineOf, nameLines, countLines, runLines}
+use Rattle.digits.specs.Digits.{decimalBy, decimal, dottedText, rowText}
+use Rattle.text.specs.Text.{textOf, writeChecks, write}
+use Rattle.program.specs.Program.{lineOf, nameLines, countLines, runLines}
 use Rattle.figures_proved.specs.Figure.{allHold}
 use Rattle.figures_proved.specs.Marked.{marked}
 use Rattle.figures_proved.specs.Corners.{corners, label0}

@@ -33,7 +33,7 @@ use Rattle.segment.specs.Packed.{width, wordsOf, basesOf, packedHopsOf}
 use Rattle.segment.specs.Lookup.{segmentLent, packedLookup}
 use Rattle.split.specs.Split.{secondHalf, splitLent, SplitOutcome, split}
 use Rattle.text.specs.Text.{textOf, WriteOutcome, write}
-use Rattle.text.specs.Program.{bytes, countLines, runLines}
+use Rattle.program.specs.Program.{bytes, countLines, runLines}
 use Rattle.why.specs.Why.{placesOf, reasonFor, WhyOutcome, why}
 use Rattle.why.specs.Text.{whyTextOf, whyText}
 use Rattle.figures_proved.specs.Figure.{Figure, figure, one, asNumber, passes, fails, prefix, route}

@@ -9,7 +9,7 @@ use Rattle.routes.specs.Change.{announced, withdrawn}
 use Rattle.segment.specs.Packed.{width, wordsOf, basesOf, packedHopsOf}
 use Rattle.split.specs.Split.{secondHalf}
 use Rattle.feed.specs.Import.{rowNumbers}
-use Rattle.text.specs.Program.{bytes}
+use Rattle.program.specs.Program.{bytes}
 use Rattle.figures_proved.specs.Figure.{Figure, figure, one, prefix, route}
 
 -- Rule 14.2: list A.

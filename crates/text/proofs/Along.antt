@@ -3,23 +3,25 @@
 -- Assumes nothing.
 use mathlib.Core.Path.{_≡_, refl, ap, _∙_}
 use mathlib.Core.Bool.{true}
-use mathlib.Core.List.{List, [], _++_}
-use Prim.Native.Nat.{ℕ, _+_, _*_, _/_, _≤_, _<_}
+use mathlib.Core.List.{List, [], _∷_, _++_}
+use Prim.Native.Nat.{ℕ, zero, suc, _+_, _*_, _/_, _≤_, _<_}
 use native.Mathlib.Omega.{arith}
 use lib.Dec.{leb, ltb}
 use lib.ListN.{length, getD, length-append}
 use borrow.Author.Tests.{ltb-true}
 use Rattle.ground.proofs.Truth.{and-left, and-right}
 use Rattle.cidr.specs.Prefix.{isPrefix, network, lengthOf, addresses}
-use Rattle.routes.specs.Row.{rowsOf, listRoom, topRoom}
+use Rattle.routes.specs.Row.{row, rowsOf, listRoom, topRoom}
 use Rattle.routes.specs.WellFormed.{prefixes, ascending, hopsGiven, halfRows, goodRows, wellFormed}
 use Rattle.routes.proofs.RowsOf.{rowAt, every-at}
 use Rattle.routes.proofs.Rest.{rest, rest-start, rest-next, rest-end}
 use Rattle.routes.proofs.ListTest.{well-half, half-room}
 use Rattle.runs.proofs.WholeList.{in-keys, in-hops}
-use Rattle.text.specs.Text.{rowText, textOf}
-use Rattle.text.specs.Inside.Putting.{Wrote, Fits, Put}
-use Rattle.text.proofs.Putting.{put-none, put-front, first-fits, rest-fits, put-then, put-long}
+use Rattle.digits.specs.Digits.{rowText}
+use Rattle.text.specs.Text.{textOf}
+use Rattle.digits.specs.Putting.{Wrote, Fits, Put}
+use Rattle.digits.proofs.Sizes.{row-at-most}
+use Rattle.digits.proofs.Putting.{put-none, put-front, first-fits, rest-fits, put-then, put-long}
 
 -- a well-formed list has no more rows than the top room
 pub in-top : (count : ℕ) (keys hops : List ℕ) → wellFormed count keys hops ≡ true → count ≤ topRoom
@@ -38,6 +40,18 @@ network-small count keys hops e i l =
     (omega (arith, in-keys count keys hops in-order)) (omega (arith, in-hops count keys hops in-order)) in
     let k = getD keys i 0 in
     ltb-true (network k) addresses (and-left (ltb (network k) addresses) _ (and-right (leb (lengthOf k) 32) _ key))
+
+-- a row has at most 25 bytes, and n rows 25 n
+pub text-at-most : (n : ℕ) (keys hops : List ℕ) → ((i : ℕ) → i < n → getD keys i 0 / 64 < 4294967296) → ((i : ℕ) → getD hops i 0 < 65536)
+    → length (textOf (rowsOf n keys hops)) ≤ 25 * n
+unfolding rowsOf textOf
+text-at-most zero keys hops nets small = omega arith
+text-at-most (suc n) [] hops nets small = omega arith
+text-at-most (suc n) (k ∷ keys) [] nets small = omega arith
+text-at-most (suc n) (k ∷ keys) (h ∷ hops) nets small =
+    let one = row-at-most k h (nets 0 (omega arith)) (small 0) in
+    let more = text-at-most n keys hops (λ i l. nets (suc i) (omega arith)) (λ i. small (suc i)) in
+    omega (arith, length-append (rowText (row k h)) (textOf (rowsOf n keys hops)))
 
 module _ (count : ℕ) (keys hops : List ℕ) where
   abbrev pub ahead : ℕ → List ℕ

@@ -14,8 +14,8 @@ use borrow.Author.Tests.{ltb-true, ltb-false, le-leb, ne-eqb}
 use Rattle.ground.proofs.Truth.{decided, and-both, not-true}
 use Rattle.rows.specs.Rows.{digit0}
 use Rattle.rows.specs.Reading.{isDigit, digits, afterDigits, begins, zeroInFront, valueFrom}
-use Rattle.text.specs.Text.{decimal}
-use Rattle.text.proofs.Decimal.{decimal-small, decimal-step, one-digit}
+use Rattle.digits.specs.Digits.{decimal}
+use Rattle.digits.proofs.Decimal.{decimal-small, decimal-step, one-digit}
 
 -- what holds of one digit, and of one digit more behind those of a tenth, holds of every number's digits
 module _ (P : ℕ → List ℕ → Type 0) (one : (n : ℕ) → n < 10 → P n ((48 + n) ∷ []))

@@ -17,8 +17,8 @@ use Rattle.routes.specs.Row.{Row}
 use Rattle.rows.specs.Rows.{LF, dot, slash, space}
 use Rattle.rows.specs.Reading.{isDigit, digits, afterDigits, isNumber, begins, Field, field, form, before, fieldsOf}
 use Rattle.rows.specs.Reading.{hasZeroInFront, valueFrom, inPlaces, valuesOf, outOfRange, hasHostBits, good, numbersFault, judgedNumbers, judged, readRow}
-use Rattle.text.specs.Text.{decimal, dottedText, rowText}
-use Rattle.text.proofs.Decimal.{one-digit, digits-at-most}
+use Rattle.digits.specs.Digits.{decimal, dottedText, rowText}
+use Rattle.digits.proofs.Decimal.{one-digit, digits-at-most}
 use Rattle.text.proofs.DecimalReads.{decimal-read, decimal-after, decimal-value, decimal-no-zero}
 
 -- a number with the mark after it

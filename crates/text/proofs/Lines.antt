@@ -10,7 +10,8 @@ use borrow.Author.Tests.{leb-true, ne-eqb}
 use Rattle.ground.proofs.Truth.{and-left}
 use Rattle.routes.specs.Row.{Row}
 use Rattle.rows.specs.Rows.{LF, dot, slash, space, rowsIn}
-use Rattle.text.specs.Text.{decimal, textOf}
+use Rattle.digits.specs.Digits.{decimal}
+use Rattle.text.specs.Text.{textOf}
 use Rattle.text.proofs.DecimalReads.{AllDigits, decimal-digits}
 use Rattle.text.proofs.Line.{line, row-text}
 

@@ -10,7 +10,7 @@ use Rattle.ground.specs.Numbers.{firstFault, outcome, done, illFormed, noRoom}
 use Rattle.routes.specs.Row.{ListLent, rowsLent}
 use Rattle.routes.specs.WellFormed.{wellFormed}
 use Rattle.text.specs.Text.{textOf, wrote, write, writeChecks}
-use Rattle.text.specs.Inside.Putting.{Wrote}
+use Rattle.digits.specs.Putting.{Wrote}
 
 module _ (l : ListLent) (buffer : List ℕ) where
   pub write-ill : wellFormed (l .count) (l .keys) (l .hops) ≡ false → wrote illFormed 0 buffer ≡ write l buffer

@@ -1,5 +1,5 @@
--- The list writer and the program's text are settled: two outcomes that keep the promise for one input are the same, in the answer and in
--- the buffer. An outcome tells its answer and its buffer.
+-- The list writer is settled: two outcomes that keep the promise for one input are the same, in the answer and in the buffer. An outcome
+-- tells its answer and its buffer.
 -- Assumes nothing.
 use mathlib.Core.Path.{_≡_, refl, sym, ap, _∙_}
 use mathlib.Core.Bool.{cond}
@@ -11,7 +11,6 @@ use Rattle.routes.specs.Row.{ListLent}
 use Rattle.text.specs.declared.Written.{Written}
 use Rattle.text.specs.declared.Written.the-variants.{Text, IllFormed, NoRoom}
 use Rattle.text.specs.Text.{WriteOutcome, writeGave, write}
-use Rattle.text.specs.Program.{ProgramOutcome, programGave, program}
 
 abbrev writtenBy : WriteOutcome → Written
 writtenBy o = cond (eqb (o .number) done) (Text (o .length)) (cond (eqb (o .number) illFormed) IllFormed NoRoom)
@@ -30,9 +29,3 @@ module _ (l : ListLent) (buffer : List ℕ) (r r′ : Written) (out out′ : Lis
         sym (one .0) ∙ ap writtenBy same ∙ other .0,
         sym (one .1) ∙ ap (λ (o : WriteOutcome). o .buffer) same ∙ other .1,
       )
-
--- the program's text, its length and the whole buffer
-pub program-settled : (feed buffer : List ℕ) {n n′ : ℕ} {out out′ : List ℕ}
-    → programGave n out ≡ program feed buffer → programGave n′ out′ ≡ program feed buffer → (n ≡ n′) × (out ≡ out′)
-program-settled feed buffer e e′ =
-    let same = e ∙ sym e′ in (ap (λ (o : ProgramOutcome). o .length) same, ap (λ (o : ProgramOutcome). o .buffer) same)

@@ -1,40 +1,18 @@
 -- Rule 12.2: a list's text has a line `a.b.c.d/len hop` for each row, in the order of the list. Rule 12.3: the writer puts the text at the
 -- front of a buffer and returns its length. It returns 11 for a list that isn't well-formed, and 13 for a buffer that is too short.
 -- Assumes nothing.
-use mathlib.Core.Bool.{true, false, not}
+use mathlib.Core.Bool.{not}
 use mathlib.Core.List.{List, [], _∷_, _++_}
-use Prim.Native.Nat.{ℕ, zero, suc, _+_, _/_, _%_}
+use Prim.Native.Nat.{ℕ}
 use lib.ListN.{length}
 use lib.Dec.{ltb}
 use Rattle.ground.specs.Numbers.{Check, check, outcome, done, illFormed, noRoom}
 use Rattle.ground.specs.Slots.{written}
-use Rattle.cidr.specs.Prefix.{network, lengthOf}
 use Rattle.routes.specs.Row.{Row, ListLent, rowsLent}
 use Rattle.routes.specs.WellFormed.{wellFormed}
-use Rattle.rows.specs.Rows.{LF, dot, slash, space, digit0}
+use Rattle.digits.specs.Digits.{rowText}
 use Rattle.text.specs.declared.Written.{Written}
 use Rattle.text.specs.declared.Written.the-variants.{Text, IllFormed, NoRoom}
-
--- Rule 12.2: a number's decimal digits, with no zero in front. `more` bounds how many stand before the last one; n itself is enough.
-unfoldable pub decimalBy : ℕ → ℕ → List ℕ
-decimalBy zero n = (digit0 + n) ∷ []
-decimalBy (suc more) n =
-    elim (ltb n 10) [ true ↦ (digit0 + n) ∷ [] | false ↦ decimalBy more (n / 10) ++ (digit0 + n % 10) ∷ [] ]
-
-unfoldable pub decimal : ℕ → List ℕ
-decimal n = decimalBy n n
-
--- Rule 2.1: an address as a.b.c.d.
-unfoldable pub dottedText : ℕ → List ℕ
-dottedText a =
-    decimal (a / 16777216)
-    ++ dot ∷ decimal (a / 65536 % 256)
-    ++ dot ∷ decimal (a / 256 % 256)
-    ++ dot ∷ decimal (a % 256)
-
--- Rule 12.2: a row as `a.b.c.d/len hop` with an LF behind it.
-unfoldable pub rowText : Row → List ℕ
-rowText r = dottedText (network (r .key)) ++ slash ∷ decimal (lengthOf (r .key)) ++ space ∷ decimal (r .hop) ++ LF ∷ []
 
 -- Rule 12.2: the text of a list, a line a row.
 unfoldable pub textOf : List Row → List ℕ

@@ -1,9 +1,5 @@
-// The list as text, as the list writer puts it and as the feed reads it back, and the text that the program writes for a feed.
+// The list as text, as the list writer puts it and as the feed reads it back.
 // Whether a list is well-formed is `routes`'s to say; what is read, and where the bytes go, is the caller's business.
-pub mod program;
-mod put;
-mod size;
-
 ghost use mathlib.Core.Path.{_≡_};
 ghost use mathlib.Core.Bool.{true};
 ghost use Prim.Native.Nat.{_≤_};
@@ -12,7 +8,9 @@ ghost use lib.Dec.{leb};
 ghost use Rattle.routes.specs.Row.{listLent, rowsOf};
 ghost use Rattle.routes.specs.WellFormed.{wellFormed};
 ghost use Rattle.text.specs.Text.{textOf, writeGave, write};
-ghost use Rattle.text.specs.Inside.Putting.{Wrote};
+ghost use Rattle.digits.specs.Putting.{Wrote};
+use digits::put;
+use digits::size;
 
 // What the list writer gives: the length of the text, 11 or 13.
 pub enum Written {

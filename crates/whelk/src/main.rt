@@ -1,12 +1,12 @@
-// Rules 13.1 to 13.4: the program. It reads a feed from standard input and writes what `text::program` makes of it, every byte of which is
+// Rules 13.1 to 13.4: the program. It reads a feed from standard input and writes what `program` makes of it, every byte of which is
 // proved. Only reading and writing are left here, of which no contract can speak.
 ghost use Rattle.io.specs.Counts.{Counts as AtFront};
 use libc::STDERR_FILENO;
 use libc::STDIN_FILENO;
 use libc::STDOUT_FILENO;
-use text::program::LONGEST_FEED;
-use text::program::PROGRAM_TEXT;
-use text::program::program_text;
+use program::LONGEST_FEED;
+use program::PROGRAM_TEXT;
+use program::program_text;
 
 // How many bytes were read, and whether a read failed.
 struct Fed {

@@ -9,8 +9,7 @@ use borrow.Author.Needs.{needs}
 use borrow.Author.Tests.{le-leb}
 use Rattle.routes.specs.Row.{rowsOf}
 use Rattle.text.specs.Text.{textOf}
-use Rattle.text.proofs.Sizes.{text-at-most}
-use Rattle.text.proofs.Along.{network-small}
+use Rattle.text.proofs.Along.{network-small, text-at-most}
 use Rattle.text.proofs.text_fits.Statement.{statement}
 use Rattle.text.proofs.text_fits.Tie as tie
 

@@ -2,7 +2,7 @@
 -- Assumes nothing.
 use mathlib.Core.Path.{sym}
 use lib.Seq.{length-take-le}
-use Rattle.text.proofs.ProgramFits.{program-within}
+use Rattle.program.proofs.ProgramFits.{program-within}
 use borrow.Author.Needs.{needs}
 use Rattle.whelk.proofs.main.Statement.{statement}
 use Rattle.whelk.proofs.main.Tie as tie

@@ -1,0 +1,4 @@
+pub mod ProgramFits
+mod ProgramLines
+mod Answering
+pub mod Settled
