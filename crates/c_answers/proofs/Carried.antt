@@ -14,9 +14,9 @@ use Rattle.runs.specs.declared.Built.{Built}
 use Rattle.runs.specs.declared.Built.the-variants as B
 use Rattle.lookup.specs.Lookup.{runLookupGave}
 use Rattle.runs.specs.Build.{BuildOutcome, buildGave}
-use Rattle.segment.specs.declared.PackedHop.{PackedHop}
-use Rattle.segment.specs.declared.PackedHop.the-variants as H
-use Rattle.segment.specs.Lookup.{packedGave}
+use Rattle.packed.specs.declared.PackedHop.{PackedHop}
+use Rattle.packed.specs.declared.PackedHop.the-variants as H
+use Rattle.packed.specs.Lookup.{packedGave}
 use Rattle.split.specs.declared.Parted.{Parted}
 use Rattle.split.specs.declared.Parted.the-variants as S
 use Rattle.split.specs.Split.{SplitOutcome, splitGave}

@@ -46,9 +46,9 @@ use Rattle.why.specs.declared.Reason.{Reason}
 use Rattle.why.specs.Why.{WhyOutcome, told, whyGave, why, whyChecks}
 use Rattle.why.specs.Text.{whyText, whyTextChecks}
 use Rattle.segment.specs.declared.Packing.{Packing}
-use Rattle.segment.specs.declared.PackedHop.{PackedHop}
+use Rattle.packed.specs.declared.PackedHop.{PackedHop}
 use Rattle.segment.specs.Pack.{PackLent, PackOutcome, packRefused, packGave, pack, packChecks}
-use Rattle.segment.specs.Lookup.{SegmentLent, packedGave, packedLookup, packedChecks}
+use Rattle.packed.specs.Lookup.{SegmentLent, packedGave, packedLookup, packedChecks}
 use Rattle.edit.specs.declared.Edit.{Edit}
 use Rattle.edit.specs.Edit.{Edited, editRefused, editGave, announce, announceChecks, withdraw, withdrawChecks}
 use Rattle.split.specs.declared.Parted.{Parted}

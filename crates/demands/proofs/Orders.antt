@@ -16,7 +16,7 @@ use Rattle.runs.specs.Build.{SlotsLent, buildChecks}
 use Rattle.runs.specs.Pair.{Pair, pairChecks}
 use Rattle.lookup.specs.Lookup.{runChecks, bytesChecks}
 use Rattle.segment.specs.Pack.{PackLent, packChecks}
-use Rattle.segment.specs.Lookup.{SegmentLent, packedChecks}
+use Rattle.packed.specs.Lookup.{SegmentLent, packedChecks}
 use Rattle.edit.specs.Edit.{announceChecks, withdrawChecks}
 use Rattle.split.specs.Split.{SplitLent, splitChecks}
 use Rattle.host.specs.Exports.{heldChecks}

@@ -39,11 +39,11 @@ use Rattle.lookup.proofs.Found.{lastIn}
 use Rattle.lookup.proofs.Lookups.{bytes-lookup-plain}
 use Rattle.lookup.proofs.HoldsUntil.{HoldsUntil, holds-as, bytes-hold-until}
 use Rattle.lookup.proofs.BuildThenLookup.{build-then-lookup, build-then-holds}
-use Rattle.edit.proofs.EditKeepsPair.{same-count}
+use Rattle.runs.proofs.Table.{same-count}
 use Rattle.segment.specs.declared.Packing.the-variants.{Done}
-use Rattle.segment.specs.declared.PackedHop.{PackedHop}
+use Rattle.packed.specs.declared.PackedHop.{PackedHop}
 use Rattle.segment.specs.Pack.{PackLent, packGave, pack}
-use Rattle.segment.specs.Lookup.{segmentLent, packedGave, packedLookup}
+use Rattle.packed.specs.Lookup.{segmentLent, packedGave, packedLookup}
 use Rattle.segment.proofs.PackThenLookup.{pack-then-lookup}
 use Rattle.text.specs.declared.Written.the-variants.{Text}
 use Rattle.text.specs.Text.{writeGave, write}

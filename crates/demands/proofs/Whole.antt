@@ -30,7 +30,7 @@ use Rattle.runs.specs.Build.{SlotsLent, BuildOutcome, built, build, buildOf, bu
 use Rattle.lookup.specs.Lookup.{RunLookupOutcome, runLookup, runChecks}
 use Rattle.lookup.proofs.Lookups.{run-lookup-plain}
 use Rattle.lookup.proofs.HoldsUntil.{HoldsUntil, holds-until}
-use Rattle.edit.proofs.EditKeepsPair.{same-count}
+use Rattle.runs.proofs.Table.{same-count}
 use Rattle.c_answers.specs.declared.WhelkCounts.{WhelkCounts}
 use Rattle.c_answers.specs.Exports.{hostImportGave, countsIn, BuildForC, buildGaveC, builtForC, buildForC}
 use Rattle.c_answers.specs.Exports.{runLookupForC, ProbedForC, probedGaveC, probedForC}

@@ -6,7 +6,7 @@ use feed::Counts;
 use feed::ImportEnd;
 use routes::Looked;
 use runs::Built;
-use segment::PackedHop;
+use packed::PackedHop;
 use segment::Packing;
 ghost use Prim.Native.Nat.{_≤_};
 
@@ -433,7 +433,7 @@ fn slots(name: &[u8], column: &[u16]) {
 
 // What a packed segment answers at an address.
 fn in_packed(width: u32, words: &[u16], bases: &[u16], hops: &[u16], a: u32) {
-    match segment::packed_lookup(width, words, bases, hops, a) {
+    match packed::packed_lookup(width, words, bases, hops, a) {
         PackedHop::Hop(hop) => print::answer(a, hop),
         PackedHop::Outside => print::text(b"19\n"),
     }

@@ -35,7 +35,7 @@ use Rattle.lookup.specs.Lookup.{lastOf, inSlices, runChecks, runLookup, inBytes
 use Rattle.c_answers.specs.Exports.{lookupForC, runLookupForC, probedForC, writtenForC}
 use Rattle.host.specs.Exports.{heldChecks, heldForC}
 use Rattle.segment.specs.Packed.{width, blockHop, bit, wordFrom, wordsFor, codeWords, wordsOf, basesFrom, basesOf, keptHops, packedHopsOf}
-use Rattle.segment.specs.Lookup.{blockOf, onesTo, pastPlace, packedChecks, packedLookup}
+use Rattle.packed.specs.Lookup.{blockOf, onesTo, pastPlace, packedChecks, packedLookup}
 use Rattle.split.specs.Split.{covering, relabelled, firstHalf, secondHalf, splitChecks, split}
 use Rattle.digits.specs.Digits.{decimalBy, decimal, dottedText, rowText}
 use Rattle.text.specs.Text.{textOf, writeChecks, write}

@@ -30,7 +30,7 @@ use Rattle.lookup.specs.Lookup.{runLookup, bytesLookup}
 use Rattle.c_answers.specs.Exports.{lookupForC, runLookupForC, probedForC, writtenForC, whyForC}
 use Rattle.host.specs.Exports.{heldForC}
 use Rattle.segment.specs.Packed.{width, wordsOf, basesOf, packedHopsOf}
-use Rattle.segment.specs.Lookup.{segmentLent, packedLookup}
+use Rattle.packed.specs.Lookup.{segmentLent, packedLookup}
 use Rattle.split.specs.Split.{secondHalf, splitLent, SplitOutcome, split}
 use Rattle.text.specs.Text.{textOf, WriteOutcome, write}
 use Rattle.program.specs.Program.{bytes, countLines, runLines}

@@ -15,7 +15,7 @@ ghost use Rattle.runs.specs.Build.{slotsLent, build, buildHalf};
 ghost use Rattle.lookup.specs.Lookup.{runLookup};
 ghost use Rattle.runs.specs.Pair.{pair};
 ghost use Rattle.segment.specs.Pack.{packLent, pack};
-ghost use Rattle.segment.specs.Lookup.{segmentLent, packedLookup};
+ghost use Rattle.packed.specs.Lookup.{segmentLent, packedLookup};
 ghost use Rattle.split.specs.Split.{splitLent, split};
 ghost use Rattle.text.specs.Text.{write};
 ghost use Rattle.c_answers.specs.Exports.{hostImportGave, lookupForC, probedGaveC, probedForC, buildGaveC, buildForC};
@@ -120,7 +120,7 @@ pub extern "C" fn whelk_packed_lookup(
     ensures { λ r.
         ⌜ r ≡ lookupForC (packedLookup (segmentLent width (now (words .entry)) (now (bases .entry)) (now (hops .entry))) a) ⌝ }
 {
-    packed_for_c(segment::packed_lookup(width, words, bases, hops, a))
+    packed_for_c(packed::packed_lookup(width, words, bases, hops, a))
 }
 
 // Rule 9.9: segment q of a list and its run table into lent words, bases and hops.

@@ -11,14 +11,7 @@ ghost use Rattle.plan.specs.Found.{FoundIn};
 use crate::hops::Found;
 
 // The prefix's row goes in, goes out or gets the hop; hop 0 stands for a withdrawal, which is only asked for a listed prefix.
-pub fn write_row(
-    count: usize,
-    keys: &mut [u64],
-    hops: &mut [u16],
-    key: u64,
-    hop: u16,
-    found: Found,
-)
+pub fn write_row(count: usize, keys: &mut [u64], hops: &mut [u16], key: u64, hop: u16, found: Found)
     requires { ⌜ (halfFormed count (now keys) (now hops) ≡ true)
         × FoundIn (take count (now keys)) key found
         × (hop ≡ 0 → found .listed ≡ true)

@@ -20,7 +20,7 @@ use Rattle.routes.specs.Plain.{matching, longest, hopOf, plain}
 use Rattle.routes.specs.WellFormed.{prefixes}
 use Rattle.routes.proofs.Row.{Has}
 use Rattle.segment.specs.Packed.{width, blockHop}
-use Rattle.segment.specs.Lookup.{blockOf}
+use Rattle.packed.specs.Lookup.{blockOf}
 
 -- a row whose network is in the segment makes the width no less than the row's length, less 16
 pub width-least : (q : ℕ) (rows : List Row) (r : Row) → Has r rows → network (r .key) / 65536 ≡ q → lengthOf (r .key) - 16 ≤ width q rows

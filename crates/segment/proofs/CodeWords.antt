@@ -13,7 +13,7 @@ use Rattle.ground.specs.Stretch.Laws.{picked-none}
 use Rattle.ground.specs.Stretch.Count.{counted-is, counted-cut, counted-at-most}
 use Rattle.ground.proofs.Map.{getD-map}
 use Rattle.segment.specs.Packed.{bit, wordFrom, wordsFor, codeWords, basesFrom}
-use Rattle.segment.specs.Lookup.{onesTo}
+use Rattle.packed.specs.Lookup.{onesTo}
 use Rattle.segment.proofs.WordOnes.{ones-word, ones-to-bit}
 
 length-stretch : (lo n : ℕ) → length (stretch lo n) ≡ n

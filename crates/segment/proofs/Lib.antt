@@ -1,4 +1,3 @@
-pub mod PackedOutcome
 pub mod WordOnes
 pub mod CodeWords
 pub mod KeptHops

@@ -12,10 +12,10 @@ use Rattle.routes.specs.Plain.{plain}
 use Rattle.runs.specs.Pair.{Pair, listOf, pairCheck}
 use Rattle.runs.proofs.Agreed.{agreed-prefixes}
 use Rattle.segment.specs.declared.Packing.the-variants.{Done}
-use Rattle.segment.specs.declared.PackedHop.{PackedHop}
+use Rattle.packed.specs.declared.PackedHop.{PackedHop}
 use Rattle.segment.specs.Packed.{width, blockHop, wordsFor, codeWords, basesFrom, keptHops}
 use Rattle.segment.specs.Pack.{PackLent, PackOutcome, packGave, pack}
-use Rattle.segment.specs.Lookup.{segmentLent, packedGave, packedLookup}
+use Rattle.packed.specs.Lookup.{segmentLent, packedGave, packedLookup}
 use Rattle.segment.specs.Inside.Blocks.{blocksDone}
 use Rattle.segment.proofs.BlockHop.{width-most, one-hop}
 use Rattle.segment.proofs.CodeWords.{length-code-words, length-code-bases}

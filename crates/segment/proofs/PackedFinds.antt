@@ -11,8 +11,8 @@ use Rattle.ground.specs.Numbers.{done}
 use Rattle.ground.specs.Stretch.{counted}
 use Rattle.routes.specs.Lookup.{lookedUp}
 use Rattle.segment.specs.Packed.{bit, wordsFor, codeWords, basesFrom, keptHops}
-use Rattle.segment.specs.Lookup.{SegmentLent, blockOf, onesTo, packedLookup}
-use Rattle.segment.proofs.PackedOutcome.{hop-there}
+use Rattle.packed.specs.Lookup.{SegmentLent, blockOf, onesTo, packedLookup}
+use Rattle.packed.proofs.PackedOutcome.{hop-there}
 use Rattle.segment.proofs.CodeWords.{length-code-words, length-code-bases, word-there, ones-through}
 use Rattle.segment.proofs.KeptHops.{length-kept-hops, some-through, through-at-most, hop-through}
 

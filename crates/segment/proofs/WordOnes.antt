@@ -12,7 +12,7 @@ use Rattle.ground.specs.Stretch.{counted}
 use Rattle.ground.specs.Stretch.Laws.{picked-none}
 use Rattle.ground.specs.Stretch.Count.{counted-is, counted-suc}
 use Rattle.segment.specs.Packed.{bitValue, wordFrom}
-use Rattle.segment.specs.Lookup.{onesTo}
+use Rattle.packed.specs.Lookup.{onesTo}
 
 module _ (p : ℕ → Bool) where
   pub word-small : (k t : ℕ) → wordFrom p k t < 2 ^ k

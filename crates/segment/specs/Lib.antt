@@ -1,4 +1,3 @@
 pub mod Packed
 pub mod Pack
-pub mod Lookup
 pub mod Inside

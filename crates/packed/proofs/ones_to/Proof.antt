@@ -1,11 +1,11 @@
--- `segment::ones_to` meets its contract: a word has at most 16 ones.
+-- `packed::ones_to` meets its contract: a word has at most 16 ones.
 -- Assumes nothing.
 use native.Mathlib.Omega.{arith}
-use Rattle.segment.specs.Lookup.{onesTo}
-use Rattle.segment.proofs.PackedOutcome.{few-ones}
+use Rattle.packed.specs.Lookup.{onesTo}
+use Rattle.packed.proofs.PackedOutcome.{few-ones}
 use borrow.Author.Needs.{needs}
-use Rattle.segment.proofs.ones_to.Statement.{statement}
-use Rattle.segment.proofs.ones_to.Tie as tie
+use Rattle.packed.proofs.ones_to.Statement.{statement}
+use Rattle.packed.proofs.ones_to.Tie as tie
 
 sub-result : tie.Need-sub-result
 sub-result c = search needs

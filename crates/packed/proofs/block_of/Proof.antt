@@ -1,12 +1,12 @@
--- `segment::block_of` meets its contract: a number below 65,536, shifted, stays below it.
+-- `packed::block_of` meets its contract: a number below 65,536, shifted, stays below it.
 -- Assumes nothing.
 use Prim.Native.Nat.{_%_, _^_, _-_}
 use native.Mathlib.Nat.{div-le-self}
 use native.Mathlib.Omega.{arith}
-use Rattle.segment.specs.Lookup.{blockOf}
+use Rattle.packed.specs.Lookup.{blockOf}
 use borrow.Author.Needs.{needs}
-use Rattle.segment.proofs.block_of.Statement.{statement}
-use Rattle.segment.proofs.block_of.Tie as tie
+use Rattle.packed.proofs.block_of.Statement.{statement}
+use Rattle.packed.proofs.block_of.Tie as tie
 
 sub-result : tie.Need-sub-result
 sub-result c = search needs

@@ -9,8 +9,8 @@ use lib.Dec.{leb, ltb, eqb}
 use lib.Count.{ones}
 use Rattle.ground.specs.Numbers.{Check, check, outcome, done, outsidePacked}
 use Rattle.routes.specs.Lookup.{LookupOutcome, lookedUp}
-use Rattle.segment.specs.declared.PackedHop.{PackedHop}
-use Rattle.segment.specs.declared.PackedHop.the-variants.{Hop, Outside}
+use Rattle.packed.specs.declared.PackedHop.{PackedHop}
+use Rattle.packed.specs.declared.PackedHop.the-variants.{Hop, Outside}
 
 -- Rule 9.11: the block of an address is its last 16 bits, divided by the size of a block.
 unfoldable pub blockOf : ℕ → ℕ → ℕ

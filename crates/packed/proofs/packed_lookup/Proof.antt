@@ -1,15 +1,15 @@
--- `segment::packed_lookup` meets its contract: its tests are the checks, one after the other.
+-- `packed::packed_lookup` meets its contract: its tests are the checks, one after the other.
 -- Assumes nothing.
 use mathlib.Core.Path.{_≡_, _∙_}
 use Prim.Native.Nat.{_+_, _/_}
 use native.Mathlib.Omega.{arith}
 use lib.ListN.{getD}
 use denote.Ref.{now}
-use Rattle.segment.specs.Lookup.{onesTo}
-use Rattle.segment.proofs.PackedOutcome.{few-ones, too-wide, no-word, no-base, no-place, past-hops, hop-there}
+use Rattle.packed.specs.Lookup.{onesTo}
+use Rattle.packed.proofs.PackedOutcome.{few-ones, too-wide, no-word, no-base, no-place, past-hops, hop-there}
 use borrow.Author.Needs.{needs}
-use Rattle.segment.proofs.packed_lookup.Statement.{statement}
-use Rattle.segment.proofs.packed_lookup.Tie as tie
+use Rattle.packed.proofs.packed_lookup.Statement.{statement}
+use Rattle.packed.proofs.packed_lookup.Tie as tie
 
 -- the place where the block is known, as those see it that know of its word and base, and of one more than the place
 abbrev block : tie.Else3 → tie.After-block-of

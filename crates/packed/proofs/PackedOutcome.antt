@@ -15,9 +15,9 @@ use Rattle.ground.specs.Numbers.{check, outcome, done, outsidePacked}
 use Rattle.ground.proofs.Truth.{or-left, or-right}
 use Rattle.ground.proofs.Numbers.{outcome-here, outcome-later, outcome-last}
 use Rattle.routes.specs.Lookup.{LookupOutcome, lookedUp}
-use Rattle.segment.specs.declared.PackedHop.{PackedHop}
-use Rattle.segment.specs.declared.PackedHop.the-variants.{Hop, Outside}
-use Rattle.segment.specs.Lookup.{SegmentLent, blockOf, onesTo, pastPlace, packedChecks, packedLookup, packedGave}
+use Rattle.packed.specs.declared.PackedHop.{PackedHop}
+use Rattle.packed.specs.declared.PackedHop.the-variants.{Hop, Outside}
+use Rattle.packed.specs.Lookup.{SegmentLent, blockOf, onesTo, pastPlace, packedChecks, packedLookup, packedGave}
 
 -- a word has at most 16 ones
 pub few-ones : (word b : ℕ) → word < 65536 → onesTo word b ≤ 16
