@@ -1,78 +1,26 @@
-// Answers as C gets them: the one number or the plain struct that stands for an answer of the library (7.10, 18.6). It stands on the crates
-// whose answers they are and is for `host` alone, which makes the calls and leaves to this crate what becomes of their answers.
-pub mod edits;
-pub mod pulls;
-pub mod reasons;
-
-ghost use Rattle.c_answers.specs.Exports.{countsForC, lookupForC, probedGaveC, probedForC, addressBytes, builtForC};
-ghost use Rattle.c_answers.specs.Exports.{hostPackGave, writtenForC, partedForC};
+// Answers as C gets them where one number stands for an answer of the library (7.10). It stands on the crates whose answers they are and is
+// for `host` alone, which makes the calls and leaves to this crate what becomes of their answers; structs are `c_structs`'s.
+ghost use Rattle.c_answers.specs.Exports.{lookupForC, probedGaveC, probedForC, addressBytes, builtForC};
+ghost use Rattle.c_answers.specs.Exports.{writtenForC, partedForC};
 ghost use mathlib.Core.Path.{_≡_};
 ghost use mathlib.Core.List.{[]};
 ghost use Prim.Native.Nat.{_≤_};
 ghost use lib.ListN.{length};
 ghost use Rattle.ground.specs.Slots.{written};
-ghost use Rattle.feed.specs.Import.{endNumber};
 ghost use Rattle.routes.specs.Lookup.{lookupGave};
 ghost use Rattle.runs.specs.Build.{buildGave};
 ghost use Rattle.lookup.specs.Lookup.{runLookupGave};
 ghost use Rattle.runs.specs.Pair.{pairGave};
-ghost use Rattle.segment.specs.Pack.{packLent, packRefused, packGave};
 ghost use Rattle.packed.specs.Lookup.{packedGave};
 ghost use Rattle.split.specs.Split.{splitGave};
 ghost use Rattle.text.specs.Text.{writeGave};
-use feed::ImportEnd;
-use feed::Imported;
 use lookup::Probed;
+use packed::PackedHop;
 use routes::Looked;
 use runs::Built;
 use runs::Paired;
-use packed::PackedHop;
-use segment::Packing;
 use split::Parted;
 use text::Written;
-
-// Rule 7.10: what an import returns to C, its number and the eight counts.
-#[repr(C)]
-pub struct WhelkCounts {
-    pub number: usize,
-    pub rows: usize,
-    pub taken: usize,
-    pub shape: usize,
-    pub range: usize,
-    pub hostbits: usize,
-    pub replaced: usize,
-    pub noroom: usize,
-    pub zeros: usize,
-}
-
-// The number of an import's end.
-pub fn number_of(end: ImportEnd) -> usize
-    ensures { λ r. ⌜ r ≡ endNumber end ⌝ }
-{
-    match end {
-        ImportEnd::Done => ground::DONE as usize,
-        ImportEnd::ReportShort => ground::REPORT_SHORT as usize,
-    }
-}
-
-// Rule 7.10: an import's answer as C gets it.
-pub fn counts_for_c(i: Imported) -> WhelkCounts
-    ensures { λ w. ⌜ w ≡ countsForC (endNumber (i .end)) (i .counts) ⌝ }
-{
-    let end = i.end;
-    let c = i.counts;
-    WhelkCounts {
-        number: number_of(end),
-        rows: c.rows,
-        taken: c.of[feed::TAKEN as usize],
-        shape: c.of[feed::SHAPE as usize],
-        range: c.of[feed::RANGE as usize],
-        hostbits: c.of[feed::HOST_BITS as usize],
-        replaced: c.of[feed::REPLACED as usize],
-        noroom: c.of[feed::NO_ROOM_LEFT as usize],
-        zeros: c.of[feed::ZEROS as usize],
-    }
-}
 
 // In the one number that C gets of a lookup, the number stands above the hop.
 pub const NUMBER_UNIT: u32 = 65536;
@@ -150,44 +98,6 @@ pub fn packed_for_c(r: PackedHop) -> u32
     match r {
         PackedHop::Hop(h) => h as u32,
         PackedHop::Outside => LOOKUP_OUTSIDE,
-    }
-}
-
-// Rule 7.10: what a packing returns to C, its number, the width, and the counts of words and of hops.
-#[repr(C)]
-pub struct WhelkPacked {
-    pub number: usize,
-    pub width: usize,
-    pub words: usize,
-    pub hops: usize,
-}
-
-// Rule 5.4: a refused packing's number, and 0 for the rest.
-fn not_packed(number: u32) -> WhelkPacked
-    ensures { λ w. ⌜ hostPackGave w [] [] [] ≡ packRefused (packLent [] [] []) number ⌝ }
-{
-    WhelkPacked {
-        number: number as usize,
-        width: 0,
-        words: 0,
-        hops: 0,
-    }
-}
-
-// Rule 7.10: a packing's answer as C gets it.
-pub fn packing_for_c(r: Packing) -> WhelkPacked
-    ensures { λ w. ⌜ hostPackGave w [] [] [] ≡ packGave r [] [] [] ⌝ }
-{
-    match r {
-        Packing::Done { width, words, hops } => WhelkPacked {
-            number: ground::DONE as usize,
-            width: width as usize,
-            words,
-            hops,
-        },
-        Packing::IllFormed => not_packed(ground::ILL_FORMED),
-        Packing::NotItsRuns => not_packed(ground::NOT_ITS_RUNS),
-        Packing::NoRoom => not_packed(ground::NO_ROOM),
     }
 }
 

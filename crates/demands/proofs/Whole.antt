@@ -31,8 +31,9 @@ use Rattle.lookup.specs.Lookup.{RunLookupOutcome, runLookup, runChecks}
 use Rattle.lookup.proofs.Lookups.{run-lookup-plain}
 use Rattle.lookup.proofs.HoldsUntil.{HoldsUntil, holds-until}
 use Rattle.runs.proofs.Table.{same-count}
-use Rattle.c_answers.specs.declared.WhelkCounts.{WhelkCounts}
-use Rattle.c_answers.specs.Exports.{hostImportGave, countsIn, BuildForC, buildGaveC, builtForC, buildForC}
+use Rattle.c_structs.specs.declared.WhelkCounts.{WhelkCounts}
+use Rattle.c_structs.specs.Structs.{hostImportGave, countsIn}
+use Rattle.c_answers.specs.Exports.{BuildForC, buildGaveC, builtForC, buildForC}
 use Rattle.c_answers.specs.Exports.{runLookupForC, ProbedForC, probedGaveC, probedForC}
 use Rattle.demands.proofs.Orders.{orders}
 use Rattle.demands.proofs.First.{First, first-of}

@@ -4,9 +4,9 @@ mod edits;
 
 use feed::Counts;
 use feed::ImportEnd;
+use packed::PackedHop;
 use routes::Looked;
 use runs::Built;
-use packed::PackedHop;
 use segment::Packing;
 ghost use Prim.Native.Nat.{_≤_};
 

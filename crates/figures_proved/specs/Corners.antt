@@ -27,7 +27,8 @@ use Rattle.runs.specs.Pair.{Pair, pair}
 use Rattle.lookup.specs.Bytes.{runBytes}
 use Rattle.edit.specs.Edit.{announce, withdraw}
 use Rattle.lookup.specs.Lookup.{runLookup, bytesLookup}
-use Rattle.c_answers.specs.Exports.{lookupForC, runLookupForC, probedForC, writtenForC, whyForC}
+use Rattle.c_structs.specs.Structs.{whyForC}
+use Rattle.c_answers.specs.Exports.{lookupForC, runLookupForC, probedForC, writtenForC}
 use Rattle.host.specs.Exports.{heldForC}
 use Rattle.segment.specs.Packed.{width, wordsOf, basesOf, packedHopsOf}
 use Rattle.packed.specs.Lookup.{segmentLent, packedLookup}

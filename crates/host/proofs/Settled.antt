@@ -10,12 +10,13 @@ use Rattle.feed.specs.declared.Counts.{Counts}
 use Rattle.feed.specs.Import.{ImportLent, import}
 use Rattle.segment.specs.Pack.{PackOutcome}
 use Rattle.edit.specs.Edit.{Edited}
-use Rattle.c_answers.specs.declared.WhelkCounts.{WhelkCounts}
-use Rattle.c_answers.specs.declared.WhelkPacked.{WhelkPacked}
-use Rattle.c_answers.specs.declared.edits.WhelkEdit.{WhelkEdit}
-use Rattle.c_answers.specs.declared.reasons.WhelkReason.{WhelkReason}
-use Rattle.c_answers.specs.declared.pulls.WhelkRow.{WhelkRow}
-use Rattle.c_answers.specs.Exports.{pullForC, ProbedForC, probedGaveC, WhyForC, whyGaveC, countsForC, hostImportGave, hostPackGave, hostEditGave}
+use Rattle.c_structs.specs.declared.WhelkCounts.{WhelkCounts}
+use Rattle.c_structs.specs.declared.WhelkPacked.{WhelkPacked}
+use Rattle.c_structs.specs.declared.edits.WhelkEdit.{WhelkEdit}
+use Rattle.c_structs.specs.declared.reasons.WhelkReason.{WhelkReason}
+use Rattle.c_structs.specs.declared.pulls.WhelkRow.{WhelkRow}
+use Rattle.c_structs.specs.Structs.{pullForC, WhyForC, whyGaveC, countsForC, hostImportGave, hostPackGave, hostEditGave}
+use Rattle.c_answers.specs.Exports.{ProbedForC, probedGaveC}
 use Rattle.c_answers.specs.Exports.{BuildForC, buildGaveC, WriteForC, writeGaveC, SplitForC, splitGaveC}
 use Rattle.host.specs.Exports.{HostTallyGave, HeldForC, heldGaveC}
 

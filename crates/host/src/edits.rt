@@ -1,12 +1,12 @@
 // The two edits for C: announce and withdraw over a pair that the host lends.
-ghost use Rattle.c_answers.specs.Exports.{hostEditGave};
+ghost use Rattle.c_structs.specs.Structs.{hostEditGave};
 ghost use mathlib.Core.Path.{_≡_};
 ghost use Rattle.routes.specs.Row.{listLent};
 ghost use Rattle.runs.specs.Table.{runsLent};
 ghost use Rattle.runs.specs.Pair.{pair};
 ghost use Rattle.edit.specs.Edit.{announce, withdraw};
-use c_answers::edits::WhelkEdit;
-use c_answers::edits::edit_for_c;
+use c_structs::edits::WhelkEdit;
+use c_structs::edits::edit_for_c;
 
 // Rule 10.1: a prefix gets a row with the hop, or its row the hop, in a lent list and its run table.
 #[no_mangle]

@@ -1,11 +1,11 @@
 // The row reader and the lent tally for C: one row of a lent feed from any place, and an import that leaves its counts in lent memory.
 ghost use Rattle.host.specs.Exports.{HostTallyGave};
-ghost use Rattle.c_answers.specs.Exports.{pullForC};
+ghost use Rattle.c_structs.specs.Structs.{pullForC};
 ghost use mathlib.Core.Path.{_≡_};
 ghost use Rattle.rows.specs.Pull.{pull};
-use c_answers::number_of;
-use c_answers::pulls::WhelkRow;
-use c_answers::pulls::pull_for_c;
+use c_structs::number_of;
+use c_structs::pulls::WhelkRow;
+use c_structs::pulls::pull_for_c;
 use feed::Counts;
 
 // Rule 4.11: the row of a feed from a place on, and the place behind it.

@@ -18,21 +18,22 @@ ghost use Rattle.segment.specs.Pack.{packLent, pack};
 ghost use Rattle.packed.specs.Lookup.{segmentLent, packedLookup};
 ghost use Rattle.split.specs.Split.{splitLent, split};
 ghost use Rattle.text.specs.Text.{write};
-ghost use Rattle.c_answers.specs.Exports.{hostImportGave, lookupForC, probedGaveC, probedForC, buildGaveC, buildForC};
-ghost use Rattle.c_answers.specs.Exports.{hostPackGave, writeGaveC, writeForC, splitGaveC, splitForC};
+ghost use Rattle.c_structs.specs.Structs.{hostImportGave, hostPackGave};
+ghost use Rattle.c_answers.specs.Exports.{lookupForC, probedGaveC, probedForC, buildGaveC, buildForC};
+ghost use Rattle.c_answers.specs.Exports.{writeGaveC, writeForC, splitGaveC, splitForC};
 use c_answers::LOOKUP_ILL_FORMED;
 use c_answers::LOOKUP_NO_ROOM;
-use c_answers::WhelkCounts;
-use c_answers::WhelkPacked;
 use c_answers::built_for_c;
-use c_answers::counts_for_c;
 use c_answers::lookup_for_c;
 use c_answers::packed_for_c;
-use c_answers::packing_for_c;
 use c_answers::parted_for_c;
 use c_answers::probed_for_c;
 use c_answers::put_address;
 use c_answers::written_for_c;
+use c_structs::WhelkCounts;
+use c_structs::WhelkPacked;
+use c_structs::counts_for_c;
+use c_structs::packing_for_c;
 use lookup::Held;
 
 // Rule 4.1: import of a feed into lent keys, hops and report.

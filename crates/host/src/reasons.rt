@@ -1,12 +1,13 @@
 // Why an address gets its hop, for C: the places of the rows that hold it with the one that decides, and these rows as text.
-ghost use Rattle.c_answers.specs.Exports.{whyGaveC, whyForC, writeGaveC, writeForC};
+ghost use Rattle.c_structs.specs.Structs.{whyGaveC, whyForC};
+ghost use Rattle.c_answers.specs.Exports.{writeGaveC, writeForC};
 ghost use mathlib.Core.Path.{_≡_};
 ghost use Rattle.routes.specs.Row.{listLent};
 ghost use Rattle.why.specs.Why.{why};
 ghost use Rattle.why.specs.Text.{whyText};
-use c_answers::reasons::WhelkReason;
-use c_answers::reasons::reason_for_c;
 use c_answers::written_for_c;
+use c_structs::reasons::WhelkReason;
+use c_structs::reasons::reason_for_c;
 
 // Rules 18.1 to 18.4: the places of the rows of a lent list that hold an address, into lent memory, and the reason.
 #[no_mangle]

@@ -1,6 +1,6 @@
 -- `host::whelk_import` meets its contract: the import's outcome, with what it returns as a struct.
 -- Assumes nothing.
-use Rattle.c_answers.proofs.ImportCarried.{import-carried}
+use Rattle.c_structs.proofs.ImportCarried.{import-carried}
 use borrow.Author.Needs.{needs}
 use Rattle.host.proofs.whelk_import.Statement.{statement}
 use Rattle.host.proofs.whelk_import.Tie as tie

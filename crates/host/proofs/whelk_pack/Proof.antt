@@ -1,6 +1,6 @@
 -- `host::whelk_pack` meets its contract: the packing's outcome, with what it returns as a struct.
 -- Assumes nothing.
-use Rattle.c_answers.proofs.PackCarried.{pack-carried}
+use Rattle.c_structs.proofs.PackCarried.{pack-carried}
 use borrow.Author.Needs.{needs}
 use Rattle.host.proofs.whelk_pack.Statement.{statement}
 use Rattle.host.proofs.whelk_pack.Tie as tie

@@ -1,6 +1,6 @@
 -- `host::edits::whelk_announce` meets its contract: the announcement's outcome, with what it returns as a struct.
 -- Assumes nothing.
-use Rattle.c_answers.proofs.EditCarried.{edit-carried}
+use Rattle.c_structs.proofs.EditCarried.{edit-carried}
 use borrow.Author.Needs.{needs}
 use Rattle.host.proofs.edits.whelk_announce.Statement.{statement}
 use Rattle.host.proofs.edits.whelk_announce.Tie as tie

@@ -1,6 +1,6 @@
 -- `host::edits::whelk_withdraw` meets its contract: the withdrawal's outcome, with what it returns as a struct.
 -- Assumes nothing.
-use Rattle.c_answers.proofs.EditCarried.{edit-carried}
+use Rattle.c_structs.proofs.EditCarried.{edit-carried}
 use borrow.Author.Needs.{needs}
 use Rattle.host.proofs.edits.whelk_withdraw.Statement.{statement}
 use Rattle.host.proofs.edits.whelk_withdraw.Tie as tie

@@ -52,10 +52,10 @@ use Rattle.feed.proofs.import_tally as tally
 use Rattle.feed.proofs.import_tally.Symbol as tally-def
 use Rattle.feed.proofs.import_tally.Symbol.{name as #import-tally}
 use Rattle.feed.proofs.import_tally.Met as tally-thm
-use Rattle.c_answers.proofs.number_of as num
-use Rattle.c_answers.proofs.number_of.Symbol as num-def
-use Rattle.c_answers.proofs.number_of.Symbol.{name as #number-of}
-use Rattle.c_answers.proofs.number_of.Met as num-thm
+use Rattle.c_structs.proofs.number_of as num
+use Rattle.c_structs.proofs.number_of.Symbol as num-def
+use Rattle.c_structs.proofs.number_of.Symbol.{name as #number-of}
+use Rattle.c_structs.proofs.number_of.Met as num-thm
 use Rattle.host.proofs.feeds.whelk_import_tally.Key.{name as #whelk-import-tally}
 use Rattle.host.proofs.feeds.whelk_import_tally as this
 use Rattle.host.proofs.feeds.whelk_import_tally.Statement as stated
@@ -300,6 +300,6 @@ whelk-import-tally-spec 𝓤 H 𝓜 𝓖 𝓡 =
     (tally-meets 𝓤 H (𝓖 .A) (givenOf 𝓤 H 𝓜 𝓖) (𝓜 .mem) (𝓡 .run) (tablesOf 𝓤 H 𝓜 (tables 𝓤 H 𝓜 𝓡 code.env)) (
       cited 𝓤 H (ImportTally 𝓤 H (𝓖 .A) (𝓜 .mem) (𝓡 .run)) 𝓜 𝓡 code.env #import-tally tally-def.routine code.calls-feed·import-tally
           (tally-thm.met 𝓤 H 𝓜 𝓖 𝓡),
-      cited 𝓤 H (NumberOf 𝓤 H (𝓖 .A) (𝓜 .mem) (𝓡 .run)) 𝓜 𝓡 code.env #number-of num-def.routine code.calls-c-answers·number-of
+      cited 𝓤 H (NumberOf 𝓤 H (𝓖 .A) (𝓜 .mem) (𝓡 .run)) 𝓜 𝓡 code.env #number-of num-def.routine code.calls-c-structs·number-of
           (num-thm.met 𝓤 H 𝓜 𝓖 𝓡),
     ))

@@ -1,6 +1,6 @@
 -- `host::feeds::whelk_pull` meets its contract: the pull's outcome, as a struct.
 -- Assumes nothing.
-use Rattle.c_answers.proofs.PullCarried.{pull-carried}
+use Rattle.c_structs.proofs.PullCarried.{pull-carried}
 use borrow.Author.Needs.{needs}
 use Rattle.host.proofs.feeds.whelk_pull.Statement.{statement}
 use Rattle.host.proofs.feeds.whelk_pull.Tie as tie

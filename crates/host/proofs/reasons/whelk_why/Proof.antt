@@ -1,6 +1,6 @@
 -- `host::reasons::whelk_why` meets its contract: the listing's outcome, with what it returns as a struct.
 -- Assumes nothing.
-use Rattle.c_answers.proofs.WhyCarried.{why-carried}
+use Rattle.c_structs.proofs.WhyCarried.{why-carried}
 use borrow.Author.Needs.{needs}
 use Rattle.host.proofs.reasons.whelk_why.Statement.{statement}
 use Rattle.host.proofs.reasons.whelk_why.Tie as tie

@@ -6,8 +6,8 @@ use Prim.Native.Nat.{ℕ}
 use Rattle.edit.specs.declared.Edit.{Edit}
 use Rattle.edit.specs.declared.Edit.the-variants as E
 use Rattle.edit.specs.Edit.{Edited, editOutcome, editGave}
-use Rattle.c_answers.specs.declared.edits.WhelkEdit.{WhelkEdit}
-use Rattle.c_answers.specs.Exports.{hostEditGave}
+use Rattle.c_structs.specs.declared.edits.WhelkEdit.{WhelkEdit}
+use Rattle.c_structs.specs.Structs.{hostEditGave}
 
 -- what a refusal gives
 abbrev refusal : ℕ → Edited

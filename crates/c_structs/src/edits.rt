@@ -1,5 +1,5 @@
 // What C gets of an edit.
-ghost use Rattle.c_answers.specs.Exports.{hostEditGave};
+ghost use Rattle.c_structs.specs.Structs.{hostEditGave};
 ghost use mathlib.Core.Path.{_≡_};
 ghost use mathlib.Core.List.{[]};
 ghost use Rattle.edit.specs.Edit.{editOutcome, editGave};

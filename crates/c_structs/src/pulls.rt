@@ -1,5 +1,5 @@
 // What C gets of a row that a pull finds.
-ghost use Rattle.c_answers.specs.Exports.{rowForC};
+ghost use Rattle.c_structs.specs.Structs.{rowForC};
 ghost use mathlib.Core.Path.{_≡_};
 ghost use mathlib.Core.Option.{some};
 ghost use Rattle.rows.specs.Reading.{bad, readingOf};

@@ -6,8 +6,8 @@ use Prim.Native.Nat.{ℕ}
 use Rattle.segment.specs.declared.Packing.{Packing}
 use Rattle.segment.specs.declared.Packing.the-variants as P
 use Rattle.segment.specs.Pack.{PackOutcome, packLent, packRefused, packGave}
-use Rattle.c_answers.specs.declared.WhelkPacked.{WhelkPacked}
-use Rattle.c_answers.specs.Exports.{hostPackGave}
+use Rattle.c_structs.specs.declared.WhelkPacked.{WhelkPacked}
+use Rattle.c_structs.specs.Structs.{hostPackGave}
 
 module _ (r : Packing) where
   pub packed-carried : {w n m : ℕ} → r ≡ P.Done w n m

@@ -1,10 +1,10 @@
--- `c_answers::edits::edit_for_c` meets its contract, case by case.
+-- `c_structs::edits::edit_for_c` meets its contract, case by case.
 -- Assumes nothing.
 use mathlib.Core.Path.{_∙_}
-use Rattle.c_answers.proofs.EditCarried.{done-carried, bad-edit-carried, ill-formed-carried, not-its-runs-carried, not-listed-carried, no-room-carried}
+use Rattle.c_structs.proofs.EditCarried.{done-carried, bad-edit-carried, ill-formed-carried, not-its-runs-carried, not-listed-carried, no-room-carried}
 use borrow.Author.Needs.{needs}
-use Rattle.c_answers.proofs.edits.edit_for_c.Statement.{statement}
-use Rattle.c_answers.proofs.edits.edit_for_c.Tie as tie
+use Rattle.c_structs.proofs.edits.edit_for_c.Statement.{statement}
+use Rattle.c_structs.proofs.edits.edit_for_c.Tie as tie
 
 enum-known-r : tie.Need-enum-known-r
 enum-known-r c = search needs

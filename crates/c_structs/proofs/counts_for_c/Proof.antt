@@ -1,10 +1,10 @@
--- `c_answers::counts_for_c` meets its contract: the number is that of the import's end, and each count is read at its row number.
+-- `c_structs::counts_for_c` meets its contract: the number is that of the import's end, and each count is read at its row number.
 -- Assumes nothing.
 use mathlib.Core.Path.{ap}
 use borrow.Author.Needs.{needs}
-use Rattle.c_answers.specs.Exports.{countsForC}
-use Rattle.c_answers.proofs.counts_for_c.Statement.{statement}
-use Rattle.c_answers.proofs.counts_for_c.Tie as tie
+use Rattle.c_structs.specs.Structs.{countsForC}
+use Rattle.c_structs.proofs.counts_for_c.Statement.{statement}
+use Rattle.c_structs.proofs.counts_for_c.Tie as tie
 
 number-of-requires : tie.Need-number-of-requires
 number-of-requires c κs = search needs

@@ -1,8 +1,8 @@
--- `c_answers::number_of` meets its contract: each end has its number.
+-- `c_structs::number_of` meets its contract: each end has its number.
 -- Assumes nothing.
 use borrow.Author.Needs.{needs}
-use Rattle.c_answers.proofs.number_of.Statement.{statement}
-use Rattle.c_answers.proofs.number_of.Tie as tie
+use Rattle.c_structs.proofs.number_of.Statement.{statement}
+use Rattle.c_structs.proofs.number_of.Tie as tie
 
 enum-told : tie.Need-enum-told
 enum-told c = search needs

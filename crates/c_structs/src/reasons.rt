@@ -1,5 +1,5 @@
 // What C gets of a listing of reasons.
-ghost use Rattle.c_answers.specs.Exports.{whyGaveC, whyForC};
+ghost use Rattle.c_structs.specs.Structs.{whyGaveC, whyForC};
 ghost use mathlib.Core.Path.{_≡_};
 ghost use mathlib.Core.List.{[]};
 ghost use mathlib.Core.Option.{none};

@@ -1,10 +1,10 @@
--- `c_answers::packing_for_c` meets its contract, case by case.
+-- `c_structs::packing_for_c` meets its contract, case by case.
 -- Assumes nothing.
 use mathlib.Core.Path.{_∙_}
-use Rattle.c_answers.proofs.PackCarried.{packed-carried, ill-formed-carried, not-its-runs-carried, no-room-carried}
+use Rattle.c_structs.proofs.PackCarried.{packed-carried, ill-formed-carried, not-its-runs-carried, no-room-carried}
 use borrow.Author.Needs.{needs}
-use Rattle.c_answers.proofs.packing_for_c.Statement.{statement}
-use Rattle.c_answers.proofs.packing_for_c.Tie as tie
+use Rattle.c_structs.proofs.packing_for_c.Statement.{statement}
+use Rattle.c_structs.proofs.packing_for_c.Tie as tie
 
 enum-known-r : tie.Need-enum-known-r
 enum-known-r c = search needs

@@ -16,8 +16,8 @@ use Rattle.feed.specs.declared.Imported.{Imported}
 use Rattle.feed.specs.Counts.{countsOf}
 use Rattle.feed.specs.Import.{ImportLent, import, endNumber, importGave}
 use Rattle.feed.proofs.Outcome.{import-short, import-long}
-use Rattle.c_answers.specs.declared.WhelkCounts.{WhelkCounts}
-use Rattle.c_answers.specs.Exports.{countsIn, countsForC, hostImportGave}
+use Rattle.c_structs.specs.declared.WhelkCounts.{WhelkCounts}
+use Rattle.c_structs.specs.Structs.{countsIn, countsForC, hostImportGave}
 
 -- C gets every count of an import
 every-count : (n : ℕ) (feed : List ℕ) (l : ImportLent) → countsIn (countsForC n (import feed l .counts)) ≡ import feed l .counts

@@ -1,10 +1,10 @@
--- `c_answers::reasons::reason_for_c` meets its contract, case by case.
+-- `c_structs::reasons::reason_for_c` meets its contract, case by case.
 -- Assumes nothing.
 use mathlib.Core.Path.{_∙_}
-use Rattle.c_answers.proofs.WhyCarried.{row-carried, nothing-carried, ill-list-carried, no-place-carried}
+use Rattle.c_structs.proofs.WhyCarried.{row-carried, nothing-carried, ill-list-carried, no-place-carried}
 use borrow.Author.Needs.{needs}
-use Rattle.c_answers.proofs.reasons.reason_for_c.Statement.{statement}
-use Rattle.c_answers.proofs.reasons.reason_for_c.Tie as tie
+use Rattle.c_structs.proofs.reasons.reason_for_c.Statement.{statement}
+use Rattle.c_structs.proofs.reasons.reason_for_c.Tie as tie
 
 enum-known-r : tie.Need-enum-known-r
 enum-known-r c = search needs

@@ -7,8 +7,8 @@ use Prim.Native.Nat.{ℕ}
 use Rattle.why.specs.declared.Reason.{Reason}
 use Rattle.why.specs.declared.Reason.the-variants as R
 use Rattle.why.specs.Why.{WhyOutcome, told, whyGave}
-use Rattle.c_answers.specs.declared.reasons.WhelkReason.{WhelkReason}
-use Rattle.c_answers.specs.Exports.{WhyForC, whyGaveC, placeForC, whyForC}
+use Rattle.c_structs.specs.declared.reasons.WhelkReason.{WhelkReason}
+use Rattle.c_structs.specs.Structs.{WhyForC, whyGaveC, placeForC, whyForC}
 
 module _ (r : Reason) where
   pub row-carried : {p n : ℕ} → r ≡ R.Row p n → whyGaveC (record { number = 0; listed = n; place = p }) [] ≡ whyForC (whyGave r [])

@@ -10,8 +10,8 @@ use Rattle.rows.specs.declared.NextRow.the-variants as N
 use Rattle.rows.specs.declared.RowPulled.{RowPulled}
 use Rattle.rows.specs.Reading.{bad, readingOf}
 use Rattle.rows.specs.Pull.{Pulled, nextReading, pullGave}
-use Rattle.c_answers.specs.declared.pulls.WhelkRow.{WhelkRow}
-use Rattle.c_answers.specs.Exports.{rowForC, pullForC}
+use Rattle.c_structs.specs.declared.pulls.WhelkRow.{WhelkRow}
+use Rattle.c_structs.specs.Structs.{rowForC, pullForC}
 
 module _ (r : RowRead) {next : ℕ} where
   pub good-carried : {k h : ℕ} → r ≡ R.Good k h

@@ -1,10 +1,10 @@
--- `c_answers::pulls::pull_for_c` meets its contract: a row is carried over, and the feed's end has no row.
+-- `c_structs::pulls::pull_for_c` meets its contract: a row is carried over, and the feed's end has no row.
 -- Assumes nothing.
 use mathlib.Core.Path.{_∙_}
-use Rattle.c_answers.proofs.PullCarried.{row-carried, end-carried}
+use Rattle.c_structs.proofs.PullCarried.{row-carried, end-carried}
 use borrow.Author.Needs.{needs}
-use Rattle.c_answers.proofs.pulls.pull_for_c.Statement.{statement}
-use Rattle.c_answers.proofs.pulls.pull_for_c.Tie as tie
+use Rattle.c_structs.proofs.pulls.pull_for_c.Statement.{statement}
+use Rattle.c_structs.proofs.pulls.pull_for_c.Tie as tie
 
 enum-known-r : tie.Need-enum-known-r
 enum-known-r c = search needs

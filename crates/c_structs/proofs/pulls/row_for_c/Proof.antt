@@ -1,10 +1,10 @@
--- `c_answers::pulls::row_for_c` meets its contract, case by case.
+-- `c_structs::pulls::row_for_c` meets its contract, case by case.
 -- Assumes nothing.
 use mathlib.Core.Path.{_∙_}
-use Rattle.c_answers.proofs.PullCarried.{good-carried, shape-carried, zeros-carried, range-carried, host-bits-carried}
+use Rattle.c_structs.proofs.PullCarried.{good-carried, shape-carried, zeros-carried, range-carried, host-bits-carried}
 use borrow.Author.Needs.{needs}
-use Rattle.c_answers.proofs.pulls.row_for_c.Statement.{statement}
-use Rattle.c_answers.proofs.pulls.row_for_c.Tie as tie
+use Rattle.c_structs.proofs.pulls.row_for_c.Statement.{statement}
+use Rattle.c_structs.proofs.pulls.row_for_c.Tie as tie
 
 enum-known-r : tie.Need-enum-known-r
 enum-known-r c = search needs
