@@ -55,9 +55,9 @@ fn too_long(lengths: &[u8], addresses: &[u32]) -> bool
 }
 
 // Rules 19.3 and 19.4: the entries of a list for lent clues, into three lent slices; 15 for a length above 32, 11 for a list that isn't
-// well-formed, 13 for more entries than room. Where there are fewer slots than clues, entries are counted before the first is written. Where
-// the clues come in key order it takes a few steps for each clue and some searches of the list for each entry. In any other order it goes over
-// all clues for each entry, and once more where entries are counted.
+// well-formed, 13 for more entries than room. Where there are fewer slots than clues, entries are counted before the first is written.
+// Where the clues come in key order it takes a few steps for each clue and some searches of the list for each entry. In any other order it
+// goes over all clues for each entry, and once more where entries are counted.
 pub fn build(
     count: usize,
     keys: &[u64],

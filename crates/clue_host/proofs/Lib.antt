@@ -1,2 +1,3 @@
 mod Carried
 pub mod Settled
+pub mod Unpacked

@@ -1,5 +1,5 @@
-// Lookup in a run table, on lent slices and on run bytes: the hop, and how far it holds. The table is `runs`'s, and the steps of a lookup are
-// `halving`'s.
+// Lookup in a run table, on lent slices and on run bytes: the hop, and how far it holds. The table is `runs`'s, and the steps of a lookup
+// are `halving`'s.
 ghost use mathlib.Core.Path.{_≡_};
 ghost use mathlib.Core.Bool.{true, cond};
 ghost use Prim.Native.Nat.{_+_, _-_, _*_, _/_, _≤_, _<_};
@@ -135,7 +135,8 @@ fn lowered(above: bool, start: u32, last: u32) -> u32
 }
 
 // Rule 7.8: halving over the starts of `n` runs of bytes. The last address before high is kept beside high, so that no start need be put
-// together again, and so that the compiler makes no branch of the choices (docs/DECISIONS.md, "Halving without a branch"); at first high is n.
+// together again, and so that the compiler makes no branch of the choices (docs/DECISIONS.md, "Halving without a branch"). At first high
+// is n.
 fn in_bytes(n: usize, bytes: &[u8], a: u32) -> Reached
     requires { ⌜ (0 < n) × (n ≡ length (now bytes) / 6) ⌝ }
     ensures { λ r. ⌜ ReachedBy (startAt (now (bytes .entry))) n a (r .low) (r .last) (r .probes) ⌝ }

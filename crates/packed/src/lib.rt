@@ -1,5 +1,5 @@
-// Lookup in the packed form of one segment of the address space. It reads what it is lent and knows nothing of the list; `segment` makes such
-// a form.
+// Lookup in the packed form of one segment of the address space. It reads what it is lent and knows nothing of the list; `segment` makes
+// such a form.
 ghost use mathlib.Core.Path.{_≡_};
 ghost use Prim.Native.Nat.{_+_, _≤_};
 ghost use Rattle.packed.specs.Lookup.{blockOf, onesTo, segmentLent, packedGave, packedLookup};
