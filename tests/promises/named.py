@@ -59,6 +59,8 @@ for names, crate, files in GIVEN.findall(TEXT):
 for names in re.findall(r"\((`\w+_\w+`(?:, `\w+`)*)\)", TEXT):
     for name in re.findall(r"`(\w+)`", names):
         check(f"the edit {name} is there", name in edits)
+for name, crate in re.findall(r"\(`(\w+_\w+)` of `(\w+)`", TEXT):
+    check(f"the edit {name} is in {crate}", (CRATES / crate / "must-fail" / f"{name}.edit").exists())
 for name in sorted(edits):
     check(f"the edit {name} is named", name in NAMED)
 

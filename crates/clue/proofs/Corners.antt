@@ -2,10 +2,9 @@
 -- and 255.255.255.255/32 hop 3.
 -- Assumes nothing.
 use mathlib.Core.Path.{_≡_, refl}
-use mathlib.Core.Bool.{Bool, true, false, _&&_, _||_}
-use mathlib.Core.List.{List, [], _∷_, map}
+use mathlib.Core.Bool.{true, false}
+use mathlib.Core.List.{List, [], _∷_}
 use Prim.Native.Nat.{ℕ}
-use lib.ListN.{length}
 use Rattle.ground.specs.Numbers.{firstFault, outcome}
 use Rattle.ground.specs.Slots.{same, written}
 use Rattle.ground.specs.Column.{ascends, isIn, lower}

@@ -1,12 +1,12 @@
 -- What demand 1 says of the two calls that can refuse: their checks stand in the one order of all calls (rule 5.2), the number is that of the
 -- first fault, and a refusal returns nothing else and leaves all lent slices as they were (rule 5.4).
 -- Assumes nothing.
-use mathlib.Core.Path.{_≡_, refl, sym, ap, _∙_}
+use mathlib.Core.Path.{_≡_, refl, ap, _∙_}
 use mathlib.Core.Bool.{Bool, true, false, cond}
 use mathlib.Core.List.{List}
 use Prim.Native.Nat.{ℕ}
 use lib.Dec.{eqb}
-use Rattle.ground.specs.Numbers.{Check, firstFault, checkOrder, outcome, past, inOrder, done}
+use Rattle.ground.specs.Numbers.{firstFault, checkOrder, outcome, past, inOrder, done}
 use Rattle.routes.specs.Row.{ListLent}
 use Rattle.entries.specs.Entries.{EntriesLent}
 use Rattle.clue.specs.Build.{EntriesOutcome, made, entriesChecks, buildEntries}

@@ -9,7 +9,7 @@ use lib.ListN.{getD}
 use lib.Dec.{ltb, eqb}
 use Rattle.ground.specs.Numbers.{Check, check, outcome, done, illFormed}
 use Rattle.ground.specs.Column.{isIn, lower}
-use Rattle.routes.specs.Row.{Row, ListLent, rowsLent}
+use Rattle.routes.specs.Row.{ListLent, rowsLent}
 use Rattle.routes.specs.WellFormed.{wellFormed}
 use Rattle.routes.specs.Plain.{plain}
 use Rattle.entries.specs.Clue.{clueOf}

@@ -1,8 +1,7 @@
 -- Rule 19.7: the quick form looks for the clue among the entries by halving (rule 7.3), and checks nothing of them but where the slices end.
 -- It says that a hop is final, or that a search has to follow, as for a length above 32.
 -- Assumes nothing.
-use mathlib.Core.Bool.{Bool, true, false, not, cond, _&&_}
-use mathlib.Core.List.{List}
+use mathlib.Core.Bool.{Bool, true, false, cond, _&&_}
 use Prim.Native.Nat.{ℕ}
 use lib.ListN.{getD}
 use lib.Dec.{ltb, leb, eqb}

@@ -1,6 +1,6 @@
 // Hints from a neighbour, for a router that is told the length of its neighbour's best match with each address: entries for such clues,
-// built from a list, and lookups that are final where no listed prefix extends the clue. It stands on what prefixes, the list and
-// lookups by halving promise, and cites no law of the crates below.
+// built from a list, and lookups that are final where no listed prefix extends the clue. It stands on `entries` and on
+// what prefixes, the list and lookups by halving promise, and cites no law of these but those of `entries`.
 ghost use mathlib.Core.Path.{_≡_};
 ghost use mathlib.Core.Bool.{true};
 ghost use Prim.Native.Nat.{_≤_, _<_};

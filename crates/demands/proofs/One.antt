@@ -1,8 +1,8 @@
 -- Demand 1: any feed, list, table or address may be handed to any entry. A refused call says which fault it met first, by number, and
 -- changes no lent memory. Import carries on past a bad row: every row gets its number, and rows in = rows taken + rows replaced + rows
 -- refused, reason by reason. Each answer here is any that keeps its entry's contract. An entry of the library that isn't here refuses
--- nothing; the exports give the same outcomes (host, `Exports`), but that run lookups are also lent memory for the last address, a number
--- over slices and bytes over run bytes, and these two have fields here.
+-- nothing; the exports give the same outcomes (c_answers and host, `Exports`; c_structs, `Structs`), but that run lookups are also lent
+-- memory for the last address, a number over slices and bytes over run bytes, and these two have fields here.
 -- Its definitions: `firstFault`, `checkOrder` (ground, `Numbers`), and of each entry its outcome, its checks and its `Gave`.
 -- Assumes nothing.
 use mathlib.Core.Path.{_≡_, refl, sym, ap, _∙_}

@@ -3,7 +3,7 @@
 -- at exit say (`editGave`), or what C gets and they say (`hostEditGave`); the fresh build is any whose answer keeps the contract of `build`.
 -- Its definitions: `announce`, `withdraw`, `editGave` (edit, `Edit`); `announced`, `withdrawn` (routes, `Change`); `build`, `buildGave`
 -- (runs, `Build`); `pairCheck` (runs, `Pair`); `plainLookup` (routes, `Lookup`); `holds`, `keyOf` (cidr, `Prefix`); `counted` (ground,
--- `Stretch`); `hostEditGave` (host, `Exports`).
+-- `Stretch`); `hostEditGave` (c_structs, `Structs`).
 -- Assumes nothing.
 use mathlib.Core.Path.{_≡_, _∙_}
 use mathlib.Core.List.{List}

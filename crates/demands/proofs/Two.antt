@@ -2,9 +2,9 @@
 -- the list at every address, and its hop holds until the last address that it gives; a packed segment says the same at every address of its
 -- segment. A list written as text reads back as the same list. Each answer here is any that keeps its entry's contract.
 -- Its definitions: `plainLookup`, `lookupGave` (routes, `Lookup`); `holds`, `lengthOf` (cidr, `Prefix`); `build`, `buildGave` (runs,
--- `Build`); `runLookup`, `runLookupGave`, `bytesLookup`, `bytesLookupGave` (runs, `Lookup`); `HoldsUntil` (runs, `HoldsUntil`); `runBytes`,
--- `startAt` (runs, `Bytes`); `heldForC`, `heldGaveC` (host, `Exports`); `pack`, `packGave` (segment, `Pack`); `packedLookup`, `packedGave`
--- (segment, `Lookup`); `write`, `writeGave` (text, `Text`); `import`, `importGave` (feed, `Import`).
+-- `Build`); `runLookup`, `runLookupGave`, `bytesLookup`, `bytesLookupGave` (lookup, `Lookup`); `HoldsUntil` (lookup, `HoldsUntil`);
+-- `runBytes`, `startAt` (lookup, `Bytes`); `heldForC`, `heldGaveC` (host, `Exports`); `pack`, `packGave` (segment, `Pack`); `packedLookup`,
+-- `packedGave` (packed, `Lookup`); `write`, `writeGave` (text, `Text`); `import`, `importGave` (feed, `Import`).
 -- Assumes nothing.
 use mathlib.Core.Path.{_≡_, refl, sym, ap, _∙_}
 use mathlib.Core.Logic.{_⊎_, inl, inr, ⊎-elim}

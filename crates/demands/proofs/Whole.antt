@@ -1,14 +1,14 @@
 -- The whole way through C: import of a feed, build of what it left, and lookup of any address in what the build left, each unpacked as C
 -- unpacks it, give the plain answer of the list that the feed's rows give, and the last address until which it holds. Run hops are slots of
 -- 16 bits.
--- Its definitions: `importedList` (feed, `Import`); `plain` (routes, `Plain`); `HoldsUntil` (runs, `HoldsUntil`); what C gets (host,
--- `Exports`).
+-- Its definitions: `importedList` (feed, `Import`); `plain` (routes, `Plain`); `HoldsUntil` (lookup, `HoldsUntil`); what C gets
+-- (c_structs, `Structs`; c_answers, `Exports`).
 -- Assumes nothing.
 use mathlib.Core.Path.{_≡_, refl, sym, ap, _∙_}
 use mathlib.Core.Logic.{⊎-elim}
 use mathlib.Core.Bool.{false}
 use mathlib.Core.List.{List}
-use Prim.Native.Nat.{ℕ, _+_, _-_, _*_, _/_, _%_, _≤_, _<_}
+use Prim.Native.Nat.{ℕ, _+_, _*_, _/_, _%_, _≤_, _<_}
 use native.Mathlib.Omega.{arith}
 use lib.ListN.{length, getD, take}
 use lib.Dec.{eqb}
@@ -23,7 +23,7 @@ use Rattle.routes.specs.Row.{Row, listLent, rowsLent, listRoom}
 use Rattle.routes.specs.Plain.{plain}
 use Rattle.feed.specs.declared.Imported.{Imported}
 use Rattle.feed.specs.declared.ImportEnd.the-variants.{Done}
-use Rattle.feed.specs.Import.{ImportLent, ImportOutcome, importGave, import, importedList}
+use Rattle.feed.specs.Import.{ImportLent, importGave, import, importedList}
 use Rattle.feed.proofs.Promise.{left-is-imported}
 use Rattle.runs.specs.Table.{runsLent, runStarts, runHops}
 use Rattle.runs.specs.Build.{SlotsLent, BuildOutcome, built, build, buildOf, buildChecks, runRoom}

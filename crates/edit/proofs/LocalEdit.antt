@@ -1,18 +1,18 @@
 -- One edit of a pair that agrees, step by step: the key's place says whether there is something to withdraw, the plan's counts whether the
 -- edit fits, and what the writing leaves is the edit's outcome.
 -- Assumes nothing.
-use mathlib.Core.Path.{_≡_, refl, sym, ap, _∙_}
+use mathlib.Core.Path.{_≡_, sym, ap, _∙_}
 use mathlib.Core.Bool.{Bool, true, false, not, _&&_, _||_}
 use mathlib.Core.List.{List}
-use Prim.Native.Nat.{ℕ, _≤_}
-use lib.ListN.{length, take}
+use Prim.Native.Nat.{ℕ}
+use lib.ListN.{take}
 use lib.Dec.{eqb, ltb}
 use borrow.Author.Tests.{eq-eqb}
 use Rattle.ground.specs.Column.{isIn}
 use Rattle.ground.specs.Numbers.{done, noRoom, notListed}
 use Rattle.ground.proofs.Truth.{not-false}
 use Rattle.cidr.specs.Prefix.{isPrefix}
-use Rattle.routes.specs.Row.{keysOf, listRoom}
+use Rattle.routes.specs.Row.{listRoom}
 use Rattle.routes.specs.Change.{listed}
 use Rattle.runs.specs.Table.{runStarts, runHops}
 use Rattle.runs.specs.Build.{runRoom}

@@ -1,27 +1,21 @@
 -- An edit's outcome, check by check: 15 of what it names, then 11 or 14 of the pair, then 16 and 13; or the list and run table afterwards.
 -- Assumes nothing.
 use mathlib.Core.Path.{_≡_, sym, ap, _∙_}
-use mathlib.Core.Bool.{Bool, true, false, not, _&&_, _||_}
-use mathlib.Core.List.{List, [], _∷_, _++_}
+use mathlib.Core.Bool.{true, false, not, _&&_}
 use Prim.Native.Nat.{ℕ}
-use lib.Dec.{eqb, ltb}
-use lib.ListN.{length}
+use lib.Dec.{eqb}
 use borrow.Author.Tests.{eq-eqb, ne-eqb}
-use Rattle.ground.specs.Numbers.{Check, check, firstFault, outcome, done, illFormed, noRoom, notItsRuns, badEdit, notListed}
-use Rattle.ground.proofs.Truth.{or-left, or-right, and-both}
+use Rattle.ground.specs.Numbers.{firstFault, outcome, done, illFormed, noRoom, notItsRuns, badEdit, notListed}
+use Rattle.ground.proofs.Truth.{or-left, or-right}
 use Rattle.ground.proofs.Numbers.{outcome-here, outcome-later, outcome-last}
 use Rattle.cidr.specs.Prefix.{keyOf}
-use Rattle.routes.specs.Row.{Row, listRoom}
 use Rattle.routes.specs.Change.{listed}
-use Rattle.runs.specs.Table.{runStarts}
-use Rattle.runs.specs.Build.{runRoom}
-use Rattle.runs.specs.Pair.{Pair, listOf, pairIll, itsRuns, pairChecks, pairCheck}
+use Rattle.runs.specs.Pair.{Pair, listOf, pairChecks, pairCheck}
 use Rattle.runs.proofs.TableOutcomes.{pair-agrees, pair-is-ill, pair-is-other}
-use Rattle.edit.specs.Edit.{Edited, editRefused, editDone, badPrefix, exceeds}
+use Rattle.edit.specs.Edit.{editRefused, editDone, badPrefix, exceeds}
 use Rattle.edit.specs.Edit.{announce, announceChecks, afterAnnounce, withdraw, withdrawChecks, afterWithdraw}
 use Rattle.plan.specs.Edited.{editedRows}
 use Rattle.edit.specs.Inside.Local.{localChecks, editAgreed, editPair}
-use Rattle.plan.proofs.Edited.{edited-withdrawn, edited-announced}
 
 -- the pair's checks
 module _ (k h : ℕ) (p : Pair) where

@@ -1,18 +1,17 @@
 -- The writing of a planned edit: the rows inside the prefix are a part of the whole slices as of their front, both rooms are enough, and the
 -- spliced columns are the run table afterwards.
 -- Assumes nothing.
-use mathlib.Core.Path.{_≡_, sym, ap, _∙_, subst}
+use mathlib.Core.Path.{_≡_, sym, ap, _∙_}
 use mathlib.Core.Bool.{true}
 use mathlib.Core.List.{List}
-use Prim.Native.Nat.{ℕ, _+_, _-_, _≤_, _<_}
+use Prim.Native.Nat.{ℕ, _+_, _-_, _≤_}
 use native.Mathlib.Omega.{arith}
 use lib.ListN.{length, take, drop}
 use lib.Seq.{length-take-le, take-take}
-use borrow.Author.Tests.{ltb-false}
 use Rattle.ground.specs.Slots.{rewritten}
 use Rattle.ground.proofs.Column.{drop-take}
 use Rattle.cidr.specs.Prefix.{network, endOf}
-use Rattle.routes.specs.Row.{Row, keysOf, hopsOf, listRoom}
+use Rattle.routes.specs.Row.{keysOf, hopsOf, listRoom}
 use Rattle.routes.specs.WellFormed.{halfFormed}
 use Rattle.runs.specs.Table.{runStarts, runHops}
 use Rattle.runs.specs.Build.{runRoom}
@@ -22,7 +21,6 @@ use Rattle.runs.proofs.WholeList.{in-keys, in-hops, in-starts, in-rhops, slices
 use Rattle.sweep.specs.Sweep.{allRows, answer, Sorted, From}
 use Rattle.plan.specs.declared.hops.Found.{Found}
 use Rattle.plan.specs.declared.Plan.{Plan}
-use Rattle.edit.specs.Edit.{exceeds}
 use Rattle.within.specs.Own.{inner}
 use Rattle.plan.specs.Found.{FoundIn}
 use Rattle.plan.specs.Edited.{editedRows}

@@ -3,7 +3,6 @@
 ghost use mathlib.Core.Bool.{true, not, _&&_, _||_};
 ghost use mathlib.Core.Path.{_≡_};
 ghost use Prim.Native.Nat.{_≤_};
-ghost use lib.ListN.{take};
 ghost use lib.Dec.{eqb, ltb};
 ghost use Rattle.ground.specs.Numbers.{done};
 ghost use Rattle.cidr.specs.Prefix.{keyOf, isPrefix};
@@ -12,9 +11,7 @@ ghost use Rattle.runs.specs.Table.{runsLent};
 ghost use Rattle.runs.specs.Build.{runRoom};
 ghost use Rattle.runs.specs.Pair.{pair, pairCheck};
 ghost use Rattle.edit.specs.Edit.{editGave};
-ghost use Rattle.plan.specs.Found.{FoundIn};
 ghost use Rattle.edit.specs.Inside.Local.{editAgreed};
-ghost use Rattle.plan.specs.Plan.{Planned};
 ghost use Rattle.edit.specs.Inside.Writing.{MayWrite, Wrote};
 use crate::Edit;
 use plan::Plan;

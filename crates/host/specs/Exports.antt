@@ -1,5 +1,6 @@
 -- Rules 4.9, 7.9 and 7.10: what two calls return to C and leave, for which the library has no outcome of that form: an import with a lent
--- tally, and the lookup over run bytes with lent bytes for the last address. What C gets of the others is in `c_answers`.
+-- tally, and the lookup over run bytes with lent bytes for the last address. What C gets of the others is in `c_answers` and
+-- `c_structs`.
 -- Assumes nothing.
 use mathlib.Core.Path.{_≡_}
 use mathlib.Core.List.{List, [], _∷_, _++_}

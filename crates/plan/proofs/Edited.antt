@@ -2,10 +2,10 @@
 -- prefixes for keys, and has as many rows, one more or one less.
 -- Assumes nothing.
 use mathlib.Core.Path.{_≡_, sym, ap, _∙_}
-use mathlib.Core.Logic.{_⊎_, inl, inr, ⊎-elim}
+use mathlib.Core.Logic.{_⊎_, ⊎-elim}
 use mathlib.Core.Bool.{Bool, true, false, cond, not}
 use mathlib.Core.List.{List}
-use Prim.Native.Nat.{ℕ, _+_, _-_, _<_}
+use Prim.Native.Nat.{ℕ, _+_, _-_}
 use native.Mathlib.Omega.{arith}
 use lib.ListN.{length, take, drop, length-append, length-drop, length-map}
 use lib.Seq.{length-take-le}
@@ -17,7 +17,6 @@ use Rattle.cidr.specs.Prefix.{isPrefix}
 use Rattle.routes.specs.Row.{Row, keysOf}
 use Rattle.routes.specs.WellFormed.{ascending}
 use Rattle.routes.specs.Change.{listed, announced, withdrawn}
-use Rattle.routes.proofs.Row.{Has}
 use Rattle.routes.proofs.WellFormed.{HalfGood}
 use Rattle.routes.proofs.Columns.{listed-place-lt, withdrawn-column}
 use Rattle.routes.proofs.Change.{ButFor, announced-but-for, announced-ascending, those-ascending, withdrawn-but-for}

@@ -2,16 +2,14 @@
 -- run at net joins the one before exactly if it has its hop, and the block goes one slot up unless the run at end joins the one before it.
 -- Assumes nothing.
 use mathlib.Core.Path.{_≡_, sym, ap, _∙_}
-use mathlib.Core.Logic.{⊎-elim}
-use mathlib.Core.Bool.{Bool, true, false, cond, _&&_, _||_}
+use mathlib.Core.Bool.{Bool, true, false, cond, _||_}
 use mathlib.Core.List.{List}
 use Prim.Native.Nat.{ℕ, _+_, _-_, _≤_, _<_}
 use native.Mathlib.Omega.{arith}
 use lib.ListN.{length, getD}
 use lib.Dec.{eqb, ltb, leb}
 use borrow.Author.Tests.{eq-eqb, ne-eqb, lt-ltb, le-ltb, le-leb, lt-leb}
-use Rattle.ground.specs.Column.{ascends, lower}
-use Rattle.ground.proofs.Truth.{decided}
+use Rattle.ground.specs.Column.{lower}
 use Rattle.ground.proofs.Lower.{lower-within, lower-le}
 use Rattle.within.specs.declared.inside.Middle.{Middle}
 use Rattle.plan.specs.declared.joins.Joint.{Joint}

@@ -6,7 +6,7 @@ use mathlib.Core.Bool.{Bool, true, cond}
 use mathlib.Core.List.{List, [], _∷_}
 use Prim.Native.Nat.{ℕ, _+_, _-_, _*_, _≤_, _<_}
 use native.Mathlib.Omega.{arith}
-use lib.ListN.{length, getD, take, drop}
+use lib.ListN.{length, take, drop}
 use lib.Dec.{eqb}
 use Rattle.ground.specs.Column.{isIn, lower}
 use Rattle.ground.specs.Stretch.{turnsFrom}
@@ -17,7 +17,6 @@ use Rattle.cidr.specs.Prefix.{network, lengthOf, size, endOf, isPrefix}
 use Rattle.cidr.proofs.Prefix.{prefix-parts, size-pos, end-within}
 use Rattle.routes.specs.Row.{Row}
 use Rattle.routes.specs.Plain.{plain}
-use Rattle.routes.specs.Change.{changedBetween}
 use Rattle.routes.proofs.Row.{Has}
 use Rattle.routes.proofs.RowsOf.{rowAt}
 use Rattle.routes.proofs.WellFormed.{HalfGood, half-parts}
@@ -27,7 +26,6 @@ use Rattle.runs.proofs.Table.{table-of}
 use Rattle.sweep.specs.Sweep.{allRows, answer, Sorted, From}
 use Rattle.sweep.proofs.Sorted.{in-order, keys-are}
 use Rattle.within.specs.declared.inside.Middle.{Middle}
-use Rattle.plan.specs.declared.Plan.{Plan}
 use Rattle.plan.specs.declared.table.Splice.{Splice}
 use Rattle.within.specs.Middle.{Measured}
 use Rattle.within.specs.Own.{enclosingHop, inner, outerSize}
@@ -35,7 +33,7 @@ use Rattle.plan.specs.Joints.{OldTable, Seamed}
 use Rattle.plan.specs.Edited.{editedRows}
 use Rattle.plan.specs.Plan.{Planned}
 use Rattle.within.proofs.Inner.{inner-has, inner-later}
-use Rattle.within.proofs.InnerPlaces.{inner-places, inner-part, inner-sorted}
+use Rattle.within.proofs.InnerPlaces.{inner-part, inner-sorted}
 use Rattle.within.proofs.Nearest.{row-listed}
 use Rattle.within.proofs.Changed.{outer-fits, changed-own}
 use Rattle.plan.proofs.Edited.{edited-but-for, edited-half, edited-length}

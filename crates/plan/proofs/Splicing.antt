@@ -2,7 +2,6 @@
 -- inside says with the new own hop as its base, so the runs measured there are the new table's, and the seams found are its seams.
 -- Assumes nothing.
 use mathlib.Core.Path.{_≡_, refl, sym, ap, _∙_}
-use mathlib.Core.Logic.{⊎-elim}
 use mathlib.Core.Bool.{Bool, true, false, cond}
 use mathlib.Core.List.{List}
 use Prim.Native.Nat.{ℕ, _+_, _-_, _≤_, _<_}
@@ -12,7 +11,7 @@ use lib.Dec.{eqb, ltb, leb}
 use borrow.Author.Tests.{eqb-true, leb-false}
 use Rattle.ground.specs.Column.{lower}
 use Rattle.ground.specs.Stretch.Count.{counted-is}
-use Rattle.ground.proofs.Truth.{decided, and-right, or-neither}
+use Rattle.ground.proofs.Truth.{and-right, or-neither}
 use Rattle.cidr.specs.Prefix.{addresses, network, lengthOf, endOf, isPrefix}
 use Rattle.cidr.proofs.Prefix.{prefix-parts, size-pos, within-holds, end-within}
 use Rattle.routes.specs.Row.{Row}

@@ -1,4 +1,4 @@
--- Rules 10.7 and 10.8: the list after an edit of prefix k. Hop 0 stands for a withdrawal.
+-- Rule 10.1: the list after an edit of prefix k. Hop 0 stands for a withdrawal.
 -- Assumes nothing.
 use mathlib.Core.Bool.{cond}
 use mathlib.Core.List.{List}

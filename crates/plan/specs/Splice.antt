@@ -7,7 +7,7 @@ use Prim.Native.Nat.{ℕ, _+_, _-_, _≤_, _<_}
 use lib.ListN.{length, take, drop}
 use lib.Dec.{ltb}
 use Rattle.ground.specs.Slots.{rewritten}
-use Rattle.ground.specs.Stretch.{picked, counted, turnsFrom}
+use Rattle.ground.specs.Stretch.{picked, turnsFrom}
 use Rattle.plan.specs.declared.table.Splice.{Splice}
 use Rattle.within.specs.Seams.{one}
 

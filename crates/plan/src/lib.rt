@@ -1,5 +1,5 @@
-// What an edit will do to a list and its run table, found before anything is written, and what then writes each of them in place. It is the
-// local work of an edit; `edit` checks the pair and asks for the room.
+// What an edit will do to a list and its run table, found before anything is written, and what then writes each of them in place. These are
+// the parts of an edit's local work; `edit` checks the pair, asks for the room and calls them.
 pub mod hops;
 mod joins;
 pub mod list;

@@ -1,6 +1,5 @@
 // A run table rewritten in place: the block of runs behind the prefix goes where it will stand, and the runs inside are written before it.
-ghost use mathlib.Core.Path.{_≡_};
-ghost use Prim.Native.Nat.{_+_, _-_, _≤_, _<_};
+ghost use Prim.Native.Nat.{_+_, _-_, _≤_};
 ghost use lib.ListN.{length};
 ghost use Rattle.sweep.specs.Sweep.{allRows, answer, Sorted, From};
 ghost use Rattle.plan.specs.Splice.{startsInside, Splices, Spliced};

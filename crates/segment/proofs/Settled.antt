@@ -1,5 +1,5 @@
 -- Packing is settled: two outcomes that keep the promise for one input are the same, in the answer and in each lent slice. An outcome
--- tells its answer and its slices. (`packed-lookup-settled` stands in PackedOutcome.)
+-- tells its answer and its slices. (`packed-lookup-settled` stands in `PackedOutcome` of `packed`.)
 -- Assumes nothing.
 use mathlib.Core.Path.{_≡_, refl, sym, ap, _∙_}
 use mathlib.Core.Bool.{cond}

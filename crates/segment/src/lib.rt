@@ -1,5 +1,6 @@
 // The packed form of one segment of the address space, made of a list and its run table. Packing stands on the pair check of `runs` and
-// reads the run table; lookup in what it leaves is `packed`'s. Which segments are packed, and where they are kept, is the caller's business.
+// reads the run table; lookup in what it leaves is `packed`'s. Which segments are packed, and where they are kept, is the caller's
+// business.
 ghost use mathlib.Core.Path.{_≡_};
 ghost use mathlib.Core.Bool.{true, not};
 ghost use Prim.Native.Nat.{_+_, _-_, _*_, _^_, _≤_, _<_};

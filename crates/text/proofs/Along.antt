@@ -1,5 +1,5 @@
 -- A walk along a list's rows, that counts the bytes of their texts or puts the texts one behind the other. It has the rows from its place
--- on before it: what it does with those completes what was done with the rows before.
+-- on before it: what it does with those completes what was done with the rows before. And how many bytes the text has at the most.
 -- Assumes nothing.
 use mathlib.Core.Path.{_≡_, refl, ap, _∙_}
 use mathlib.Core.Bool.{true}
@@ -41,7 +41,7 @@ network-small count keys hops e i l =
     let k = getD keys i 0 in
     ltb-true (network k) addresses (and-left (ltb (network k) addresses) _ (and-right (leb (lengthOf k) 32) _ key))
 
--- a row has at most 25 bytes, and n rows 25 n
+-- n rows have at most 25 n bytes
 pub text-at-most : (n : ℕ) (keys hops : List ℕ) → ((i : ℕ) → i < n → getD keys i 0 / 64 < 4294967296) → ((i : ℕ) → getD hops i 0 < 65536)
     → length (textOf (rowsOf n keys hops)) ≤ 25 * n
 unfolding rowsOf textOf

@@ -1,5 +1,6 @@
 // The list as text, as the list writer puts it and as the feed reads it back.
-// Whether a list is well-formed is `routes`'s to say; what is read, and where the bytes go, is the caller's business.
+// How a row is written is `digits`'s, and whether a list is well-formed is `routes`'s to say; what is read, and where the bytes go, is the
+// caller's business.
 ghost use mathlib.Core.Path.{_≡_};
 ghost use mathlib.Core.Bool.{true};
 ghost use Prim.Native.Nat.{_≤_};

@@ -1,5 +1,5 @@
 // Why an address gets its hop, for the people at a duty desk: the rows of a list that hold it, shortest prefix first, as places and as
-// text, and the one that decides. The list and its plain answer are `routes`'s, and how a row is written is `text`'s.
+// text, and the one that decides. The list and its plain answer are `routes`'s, and how rows are written is `text`'s.
 ghost use mathlib.Core.Path.{_≡_};
 ghost use mathlib.Core.Bool.{true};
 ghost use mathlib.Core.List.{map};

@@ -1,14 +1,13 @@
 -- `plan::plan_edit` meets its contract: what its parts found makes the plan (`Planning`).
 -- Assumes nothing.
 use mathlib.Core.Path.{_≡_, refl, sym, _∙_}
-use mathlib.Core.Bool.{true}
 use Prim.Native.Nat.{ℕ, _+_, _*_, _≤_, _<_}
 use native.Mathlib.Omega.{arith}
 use lib.ListN.{length}
 use borrow.Author.Needs.{needs}
 use denote.Ref.{now}
 use Rattle.ground.specs.Column.{lower}
-use Rattle.cidr.specs.Prefix.{keyOf, isPrefix, network, endOf}
+use Rattle.cidr.specs.Prefix.{keyOf, network, endOf}
 use Rattle.cidr.proofs.Prefix.{prefix-parts, network-key}
 use Rattle.sweep.proofs.Sorted.{keys-ascend}
 use Rattle.within.proofs.InnerPlaces.{inner-places, inner-sorted}
