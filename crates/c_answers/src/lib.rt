@@ -1,5 +1,7 @@
 // Answers as C gets them where one number stands for an answer of the library (7.10). It stands on the crates whose answers they are and is
 // for `host` alone, which makes the calls and leaves to this crate what becomes of their answers; structs are `c_structs`'s.
+#![tactic(auto)]
+
 ghost use Rattle.c_answers.specs.Exports.{lookup_for_c, probed_gave_c, probed_for_c, address_bytes, built_for_c};
 ghost use Rattle.c_answers.specs.Exports.{written_for_c, parted_for_c};
 ghost use Rattle.std.specs.Prelude.{◌≡◌, [], ◌≤◌, length};

@@ -1,5 +1,7 @@
 // The structs that C gets of an import, a packing, an edit, a pull and a listing of reasons, and the number of an import's end (7.10,
 // 18.6). It stands on the crates whose answers they are and is for `host` alone; any other answer that fits one number is `c_answers`'s.
+#![tactic(auto)]
+
 pub mod edits;
 pub mod pulls;
 pub mod reasons;

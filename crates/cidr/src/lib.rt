@@ -1,4 +1,6 @@
 // Addresses, prefixes and keys as CIDR (RFC 4632) has them: what a prefix is, and which addresses it holds.
+#![tactic(auto)]
+
 ghost use Rattle.std.specs.Prelude.{◌≡◌, ◌+◌, ◌-◌, ◌*◌, ◌/◌, ◌^◌, ◌≤◌};
 ghost use Rattle.cidr.specs.Prefix.{is_prefix, holds, network, end_of};
 

@@ -1,6 +1,8 @@
 // Hints from a neighbour, for a router that is told the length of its neighbour's best match with each address: entries for such clues,
 // built from a list, and lookups that are final where no listed prefix extends the clue. It stands on `entries` and on
 // what prefixes, the list and lookups by halving promise, and cites no law of these but those of `entries`.
+#![tactic(auto)]
+
 ghost use Rattle.std.specs.Prelude.{◌≡◌, true, ◌≤◌, ◌<◌, length, get_or};
 ghost use Rattle.halving.specs.Halving.{halving};
 ghost use Rattle.routes.specs.Row.{list_lent, rows_of};

@@ -1,5 +1,7 @@
 // The C interface of the hints: entries built, looked up with a clue, and asked quickly, over memory that the host lends, each with one
 // number or one plain struct back. It is a product of its own beside `host`; include/whelkhollow_clue.h declares what is exported here.
+#![tactic(auto)]
+
 ghost use Rattle.clue_host.specs.Exports.{host_entries_gave, hint_for_c, quick_for_c};
 ghost use Rattle.std.specs.Prelude.{◌≡◌, []};
 ghost use Rattle.routes.specs.Row.{list_lent};

@@ -1,5 +1,7 @@
 // One edit of a list and its run table: announce and withdraw, and the exact number of addresses that get another answer. An edit checks
 // the pair first; what it does to a pair that agrees is local work, in `agreed`, by the plan of `plan`.
+#![tactic(auto)]
+
 pub mod agreed;
 
 ghost use Rattle.std.specs.Prelude.{true, ◌≡◌, ◌≤◌};

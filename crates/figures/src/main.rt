@@ -1,5 +1,7 @@
 // The worked figures of rules 14.3, 14.4, 14.6, 14.7, 14.8 and 14.11, as far as they are plain answers, run tables, packed segments and
 // edits, and corners of the import, of packing and of edits. tests/figures/expected.py makes what it has to write.
+#![tactic(auto)]
+
 mod edits;
 
 ghost use Rattle.std.specs.Prelude.{◌≤◌};

@@ -1,6 +1,8 @@
 // What the other crates stand on and that knows nothing of routes: the numbers that a call returns, stretches of numbers, what a lent
 // slice holds after a call, and the moves of one column. It is for this library's crates and not for callers.
 // The moves of a column stand once for each width.
+#![tactic(auto)]
+
 pub mod column16;
 pub mod column32;
 pub mod column64;

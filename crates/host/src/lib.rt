@@ -1,5 +1,7 @@
 // The C interface: the library's entries over memory that the host lends, each with one number or one plain struct back. It adds no rule
 // but 7.9, 7.10 and 18.6; include/whelkhollow.h declares what is exported here.
+#![tactic(auto)]
+
 pub mod checks;
 pub mod edits;
 pub mod feeds;

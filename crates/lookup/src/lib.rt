@@ -1,5 +1,7 @@
 // Lookup in a run table, on lent slices and on run bytes: the hop, and how far it holds. The table is `runs`'s, and the steps of a lookup
 // are `halving`'s.
+#![tactic(auto)]
+
 ghost use Rattle.std.specs.Prelude.{◌≡◌, true, cond, ◌+◌, ◌-◌, ◌*◌, ◌/◌, ◌≤◌, ◌<◌, length, get_or};
 ghost use Rattle.runs.specs.Table.{runs_lent};
 ghost use Rattle.lookup.specs.Bytes.{start_at, hop_at};

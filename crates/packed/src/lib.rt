@@ -1,5 +1,7 @@
 // Lookup in the packed form of one segment of the address space. It reads what it is lent and knows nothing of the list; `segment` makes
 // such a form.
+#![tactic(auto)]
+
 ghost use Rattle.std.specs.Prelude.{◌≡◌, ◌+◌, ◌≤◌};
 ghost use Rattle.packed.specs.Lookup.{block_of, ones_to, segment_lent, packed_gave, packed_lookup};
 

@@ -1,5 +1,7 @@
 // What an edit will do to a list and its run table, found before anything is written, and what then writes each of them in place. These are
 // the parts of an edit's local work; `edit` checks the pair, asks for the room and calls them.
+#![tactic(auto)]
+
 pub mod hops;
 mod joins;
 pub mod list;

@@ -1,5 +1,7 @@
 // Text on standard output: numbers, addresses, prefixes and run tables, for `figures`. No contract can say what a program wrote; the
 // program's stored output tests it.
+#![tactic(auto)]
+
 use libc::STDOUT_FILENO;
 
 // Some bytes as they are.

@@ -1,5 +1,7 @@
 // The text that the program writes for a feed: the counts of its import, a line each, and the run table of the imported list, a line a run.
 // Texts are put one behind the other at places of a buffer, as in `digits::put`, and the whole always has room.
+#![tactic(auto)]
+
 ghost use Rattle.std.specs.Prelude.{◌≡◌, true, ◌≤◌, ◌<◌, length, take};
 ghost use Rattle.routes.specs.Row.{rows_of};
 ghost use Rattle.routes.specs.WellFormed.{well_formed};

@@ -34,7 +34,7 @@ module _ (a : ℕ) where
   unfolding last_hop
   last_none h [] none_in = refl
   last_none h (r ∷ rs) none_in =
-      last_none _ rs (λ s m. none_in s (Memᴰ.tail m)) ∙ cond_false r.hop h (none_in r (Memᴰ.head refl))
+      last_none (kept_hop h a r) rs (λ s m. none_in s (Memᴰ.tail m)) ∙ cond_false r.hop h (none_in r (Memᴰ.head refl))
 
   -- after the longest match nothing matches
   none_after : (r : Row) (rs : List Row) → ascending (r ∷ rs) ≡ true → Longest (r ∷ rs) a r → NoMatch rs a

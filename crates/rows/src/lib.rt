@@ -1,5 +1,7 @@
 // The rows of a feed: where each ends, what each says by itself, and a reader that takes one at a time.
 // Prefixes are `cidr`'s; the number that a row gets in an import, and the list, are `feed`'s.
+#![tactic(auto)]
+
 mod parse;
 
 ghost use Rattle.std.specs.Prelude.{◌≡◌, ◌+◌, ◌≤◌, min, length, drop};

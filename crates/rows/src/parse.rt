@@ -9,7 +9,7 @@ ghost use Rattle.rows.specs.Inside.Fields.{digits_from, field_from, read_from};
 use crate::RowRead;
 
 // The values of a row's six numbers: four octets, the length and the hop.
-#[derive(Drop)]
+#[derive(Clone, Copy)]
 pub struct Values {
     pub a: u32,
     pub b: u32,

@@ -1,6 +1,8 @@
 // The packed form of one segment of the address space, made of a list and its run table. Packing stands on the pair check of `runs` and
 // reads the run table; lookup in what it leaves is `packed`'s. Which segments are packed, and where they are kept, is the caller's
 // business.
+#![tactic(auto)]
+
 ghost use Rattle.std.specs.Prelude.{◌≡◌, true, not, ◌+◌, ◌-◌, ◌*◌, ◌^◌, ◌≤◌, ◌<◌, length, eqb};
 ghost use Rattle.std.specs.Int.Count.{ones};
 ghost use Rattle.ground.specs.Column.{ascends};

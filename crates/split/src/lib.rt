@@ -1,5 +1,7 @@
 // The split of a list for two cores: the second half, whose labels XOR with those of the first half to the plain answer at every address.
 // The open prefixes of the first half are `sweep`'s stack; lookup over a half is `routes`'s, and run tables of halves are `runs`'s.
+#![tactic(auto)]
+
 ghost use Rattle.std.specs.Prelude.{◌≡◌, ◌∷◌, ◌-◌, ◌≤◌, ◌<◌, length, drop};
 ghost use Rattle.std.specs.Int.Bits.{bit_xor};
 ghost use Rattle.ground.specs.Slots.{written};

@@ -1,6 +1,8 @@
 // One sweep over the rows of a list: where the answer turns, how many runs there are, the runs written, and whether lent slices are those
 // runs. It stands on `routes`, takes the rows in key order, and starts at any address before which no row begins. It is for this library's
 // crates and asks things of them; what a run table is, the refusals and the rooms are `runs`'s.
+#![tactic(auto)]
+
 ghost use Rattle.std.specs.Prelude.{◌≡◌, ◌+◌, ◌-◌, ◌≤◌, ◌<◌, length, take};
 ghost use Rattle.ground.specs.Stretch.{counted, turns_from};
 ghost use Rattle.sweep.specs.Sweep.{last_or, all_rows, answer, Sorted, From, Stack, Falling, Closed, BeforeEvent, Event, Turned};
@@ -10,7 +12,7 @@ ghost use Rattle.sweep.specs.Sweep.{RunsWritten, are_runs};
 // each one's last address and `open_hops` its hop. A later prefix lies in those before it, so at most 33 are open, and the last one's hop
 // is the answer, or the base hop where none is open. Each row is opened and closed once.
 // Where the sweep stands: the next row, how many prefixes are open, and the address, which past 255.255.255.255 is 2^32.
-#[derive(Drop)]
+#[derive(Clone, Copy)]
 pub struct Standing {
     pub row: usize,
     pub depth: usize,

@@ -1,6 +1,8 @@
 // The list as text, as the list writer puts it and as the feed reads it back.
 // How a row is written is `digits`'s, and whether a list is well-formed is `routes`'s to say; what is read, and where the bytes go, is the
 // caller's business.
+#![tactic(auto)]
+
 ghost use Rattle.std.specs.Prelude.{◌≡◌, true, ◌≤◌, length, leb};
 ghost use Rattle.routes.specs.Row.{list_lent, rows_of};
 ghost use Rattle.routes.specs.WellFormed.{well_formed};

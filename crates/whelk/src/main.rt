@@ -1,5 +1,7 @@
 // Rules 13.1 to 13.4: the program. It reads a feed from standard input and writes what `program` makes of it, every byte of which is
 // proved. Only reading and writing are left here, of which no contract can speak.
+#![tactic(auto)]
+
 ghost use Rattle.io.specs.Counts.{IsPrefixLen as AtFront};
 
 use libc::{STDERR_FILENO, STDIN_FILENO, STDOUT_FILENO};

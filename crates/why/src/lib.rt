@@ -1,5 +1,7 @@
 // Why an address gets its hop, for the people at a duty desk: the rows of a list that hold it, shortest prefix first, as places and as
 // text, and the one that decides. The list and its plain answer are `routes`'s, and how rows are written is `text`'s.
+#![tactic(auto)]
+
 ghost use Rattle.std.specs.Prelude.{◌≡◌, true, map, ℕ, ◌≤◌, ◌<◌, length, get_or, take};
 ghost use Rattle.ground.specs.Slots.{written};
 ghost use Rattle.routes.specs.Row.{list_lent, rows_of};

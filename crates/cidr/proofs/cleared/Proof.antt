@@ -5,10 +5,10 @@ use Rattle.cidr.proofs.cleared.Statement.{statement}
 use Rattle.cidr.proofs.cleared.Tie as tie
 use Rattle.cidr.proofs.Bits.{shifted_back}
 
-shr-result : tie.Need-overflow-shr-result
+shr-result : tie.Need-overflow_shr-result
 shr-result c = search rules
 
-shl-result : tie.Need-overflow-shl-result
+shl-result : tie.Need-overflow_shl-result
 shl-result c = search rules
 
 returns : tie.Need-returns

@@ -8,13 +8,13 @@ use borrow.Author.Rules.{rules}
 use Rattle.packed.proofs.block_of.Statement.{statement}
 use Rattle.packed.proofs.block_of.Tie as tie
 
-sub-result : tie.Need-overflow-sub-result
+sub-result : tie.Need-overflow_sub-result
 sub-result c = search rules
 
-shr-result : tie.Need-overflow-shr-result
+shr-result : tie.Need-overflow_shr-result
 shr-result c = search rules
 
-cast-result : tie.Need-overflow-cast-result
+cast-result : tie.Need-overflow_cast-result
 cast-result c = omega (arith, div-le_self (c.args.a % 65536) (2 ^ (16 - c.args.width)))
 
 returns : tie.Need-returns

@@ -7,16 +7,16 @@ use borrow.Author.Rules.{rules}
 use Rattle.packed.proofs.ones_to.Statement.{statement}
 use Rattle.packed.proofs.ones_to.Tie as tie
 
-sub-result : tie.Need-overflow-sub-result
+sub-result : tie.Need-overflow_sub-result
 sub-result c = search rules
 
-cast-result : tie.Need-overflow-cast-result
+cast-result : tie.Need-overflow_cast-result
 cast-result c = search rules
 
-shr-result : tie.Need-overflow-shr-result
+shr-result : tie.Need-overflow_shr-result
 shr-result c = search rules
 
-cast-result-2 : tie.Need-overflow-cast-result-2
+cast-result-2 : tie.Need-overflow_cast-result-2
 unfolding ones_to
 cast-result-2 c = omega (arith, few_ones c.args.word c.args.block (search rules))
 

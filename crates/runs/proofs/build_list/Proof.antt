@@ -12,50 +12,38 @@ use borrow.Author.Rules.{rules}
 use Rattle.runs.proofs.build_list.Statement.{statement}
 use Rattle.runs.proofs.build_list.Tie as tie
 
-list-ok-requires : tie.Need-list-ok-requires
+list-ok-requires : tie.Need-list_ok-requires
 list-ok-requires c κs = search rules
 
 -- the start, from where the slices are known; the branch past the list test, from the arguments of `build_rows`; and the call of that, from
 -- where the slices are known after it
-abbrev at_start : tie.After-slice-known2 → tie.Start
-at_start c = c.before.before.before.before
+ok : (c : tie.Else-not-list_ok) → let a = c.args in formed a.half a.count a.keys.now a.hops.now ≡ true
+ok c = sym c.list_ok.ensures ∙ c.if-not-list_ok.false
 
-abbrev at-branch : tie.After-build-rows-arg4 → tie.Else1
-at-branch c = c.before.before.before.before
-
-abbrev at-build-rows : tie.After-slice-known4 → tie.After-build-rows
-at-build-rows c = c.before.before.before.before
-
--- what the branch past the list test knows
-ok : (c : tie.Else1) → let a = (at_start c.before.before).args in formed a.half a.count a.keys.now a.hops.now ≡ true
-ok c = sym c.before.list-ok.ensures ∙ not-false _ c.if1.false
-
-in_order : (c : tie.Else1) → let a = (at_start c.before.before).args in half_formed a.count a.keys.now a.hops.now ≡ true
+in_order : (c : tie.Else-not-list_ok) → let a = c.args in half_formed a.count a.keys.now a.hops.now ≡ true
 in_order c = formed_half _ _ _ _ (ok c)
 
-returns : tie.Need-returns
-returns c = build_ill _ _ _ (sym c.before.list-ok.ensures ∙ not-true _ c.if1.true)
+returns : tie.Need-returns-then-not-list_ok
+returns c = build_ill _ _ _ (sym c.list_ok.ensures ∙ c.if-not-list_ok.true)
 
-slice-aggregate-build-rows : tie.Need-slice-aggregate-build-rows
-slice-aggregate-build-rows c = sym (length-take-le _ _ (in_keys _ _ _ (in_order c.before)))
+slice-aggregate-build-rows : tie.Need-slice_bounds-build_rows-end
+slice-aggregate-build-rows c = sym (length-take-le _ _ (in_keys _ _ _ (in_order c)))
 
-slice-aggregate-build-rows-2 : tie.Need-slice-aggregate-build-rows-2
-slice-aggregate-build-rows-2 c = sym (length-take-le _ _ (in_hops _ _ _ (in_order c.before.before)))
+slice-aggregate-build-rows-2 : tie.Need-slice_bounds-build_rows-end-2
+slice-aggregate-build-rows-2 c = sym (length-take-le _ _ (in_hops _ _ _ (in_order c)))
 
-build-rows-requires : tie.Need-build-rows-requires
-build-rows-requires c κs = slices_sorted _ _ _ (in_order (at-branch c))
+build-rows-requires : tie.Need-build_rows-requires
+build-rows-requires c κs = slices_sorted _ _ _ (in_order c.before.before)
 
-same_length : tie.Need-same-length
+same_length : tie.Need-shape_of-starts
 same_length c = search rules
 
-same-length-2 : tie.Need-same-length-2
+same-length-2 : tie.Need-shape_of-rhops
 same-length-2 c = search rules
 
-returns-2 : tie.Need-returns-2
+returns-2 : tie.Need-returns
 returns-2 c =
-    let called = at-build-rows c in
-    let branch = at-branch called.before in
-    rw (slices_rows _ _ _ (in_order branch)) at called.build-rows.ensures ∙ sym (build_well _ _ _ (ok branch))
+    rw (slices_rows _ _ _ (in_order c.before.before.before.before.before.before.before)) at c.build_rows.ensures ∙ sym (build_well _ _ _ (ok c.before.before.before.before.before.before.before))
 
 pub build_list_spec : {M : Type 1} → statement M
 build_list_spec =

@@ -16,64 +16,54 @@ use borrow.Author.Rules.{rules}
 use Rattle.runs.proofs.pair_check.Statement.{statement}
 use Rattle.runs.proofs.pair_check.Tie as tie
 
-list-ok-requires : tie.Need-list-ok-requires
+list-ok-requires : tie.Need-list_ok-requires
 list-ok-requires c κs = search rules
 
 -- the start, from where the slices are known, and the branch past the room test, from the arguments of `same_runs`
-abbrev at_start : tie.After-shared-slice-known4 → tie.Start
-at_start c = c.before.before.before.before
+ok : (c : tie.Else-not-list_ok) → let a = c.args in well_formed a.count a.keys.now a.hops.now ≡ true
+ok c = list_test _ _ _ c.list_ok.ensures ∙ c.if-not-list_ok.false
 
-abbrev at-branch : tie.After-same-runs-arg4 → tie.Else2
-at-branch c = c.before.before.before.before
+room : (c : tie.Else-run_room-runs)
+    → let a = c.args in a.runs ≤ run_room a.starts.now a.rhops.now
+room c = rw (sym c.run_room.ensures) c.if-run_room-runs.false
 
--- what the branches past the list test and past the room test know
-ok : (c : tie.Else1) → let a = (at_start c.before.before).args in well_formed a.count a.keys.now a.hops.now ≡ true
-ok c = list_test _ _ _ c.before.list-ok.ensures ∙ not-false _ c.if1.false
+returns : tie.Need-returns-then-not-list_ok
+returns c = pair_ill_list _ (list_test _ _ _ c.list_ok.ensures ∙ c.if-not-list_ok.true)
 
-room : (c : tie.Else2)
-    → let a = (at_start c.before.before.before.before).args in a.runs ≤ run_room a.starts.now a.rhops.now
-room c = rw (sym c.before.run_room.ensures) c.if2.false
-
-returns : tie.Need-returns
-returns c = pair_ill_list _ (list_test _ _ _ c.before.list-ok.ensures ∙ not-true _ c.if1.true)
-
-run-room-requires : tie.Need-run-room-requires
+run-room-requires : tie.Need-run_room-requires
 run-room-requires c κs = search rules
 
-returns-2 : tie.Need-returns-2
-returns-2 c = pair_ill_runs _ (ok c.before.before) (rw (sym c.before.run_room.ensures) c.if2.true)
+returns-2 : tie.Need-returns-then-run_room-runs
+returns-2 c = pair_ill_runs _ (ok c.before.before) (rw (sym c.run_room.ensures) c.if-run_room-runs.true)
 
-slice-aggregate-same-runs : tie.Need-slice-aggregate-same-runs
-slice-aggregate-same-runs c = sym (length-take-le _ _ (in_keys _ _ _ (well_half _ _ _ (ok c.before.before.before))))
+slice-aggregate-same-runs : tie.Need-slice_bounds-same_runs-end
+slice-aggregate-same-runs c = sym (length-take-le _ _ (in_keys _ _ _ (well_half _ _ _ (ok c.before.before))))
 
-slice-aggregate-same-runs-2 : tie.Need-slice-aggregate-same-runs-2
-slice-aggregate-same-runs-2 c = sym (length-take-le _ _ (in_hops _ _ _ (well_half _ _ _ (ok c.before.before.before.before))))
+slice-aggregate-same-runs-2 : tie.Need-slice_bounds-same_runs-end-2
+slice-aggregate-same-runs-2 c = sym (length-take-le _ _ (in_hops _ _ _ (well_half _ _ _ (ok c.before.before))))
 
-slice-aggregate-same-runs-3 : tie.Need-slice-aggregate-same-runs-3
-slice-aggregate-same-runs-3 c = sym (length-take-le _ _ (in_starts _ _ _ (room c.before.before.before)))
+slice-aggregate-same-runs-3 : tie.Need-slice_bounds-same_runs-end-3
+slice-aggregate-same-runs-3 c = sym (length-take-le _ _ (in_starts _ _ _ (room c)))
 
-slice-aggregate-same-runs-4 : tie.Need-slice-aggregate-same-runs-4
-slice-aggregate-same-runs-4 c = sym (length-take-le _ _ (in_rhops _ _ _ (room (at-branch c))))
+slice-aggregate-same-runs-4 : tie.Need-slice_bounds-same_runs-end-4
+slice-aggregate-same-runs-4 c = sym (length-take-le _ _ (in_rhops _ _ _ (room c)))
 
-same-runs-requires : tie.Need-same-runs-requires
+same-runs-requires : tie.Need-same_runs-requires
 same-runs-requires c κs =
-    let branch = at-branch c in
-    let in_order = well_half _ _ _ (ok branch.before.before) in
-    (slices_sorted _ _ _ in_order, (λ i l. omega arith), omega arith, omega arith, runs_paired _ _ _ (room branch))
+    let in_order = well_half _ _ _ (ok c.before.before) in
+    (slices_sorted _ _ _ in_order, (λ i l. omega arith), omega arith, omega arith, runs_paired _ _ _ (room c))
 
-returns-3 : tie.Need-returns-3
+returns-3 : tie.Need-returns-then-same_runs
 returns-3 c =
-    let branch = at-branch c.before.before in
-    let fine = ok branch.before.before in
-    let within = room branch in
-    pair_agreed _ fine within (its _ fine within c.before.same_runs.ensures ∙ c.if3.true)
+    let fine = ok c.before.before.before.before in
+    let within = room c.before.before in
+    pair_agreed _ fine within (its _ fine within c.same_runs.ensures ∙ c.if-same_runs.true)
 
-returns-4 : tie.Need-returns-4
+returns-4 : tie.Need-returns-else-same_runs
 returns-4 c =
-    let branch = at-branch c.before.before in
-    let fine = ok branch.before.before in
-    let within = room branch in
-    pair_differs _ fine within (its _ fine within c.before.same_runs.ensures ∙ c.if3.false)
+    let fine = ok c.before.before.before.before in
+    let within = room c.before.before in
+    pair_differs _ fine within (its _ fine within c.same_runs.ensures ∙ c.if-same_runs.false)
 
 pub pair_check_spec : {M : Type 1} → statement M
 pair_check_spec =

@@ -5,17 +5,17 @@ use Rattle.runs.proofs.WholeList.{room_twice, room_counted}
 use Rattle.runs.proofs.room_enough.Statement.{statement}
 use Rattle.runs.proofs.room_enough.Tie as tie
 
-mul-if1 : tie.Need-overflow-mul-if1
+mul-if1 : tie.Need-overflow_mul-keys
 mul-if1 c = search rules
 
-returns : tie.Need-returns
-returns c = room_twice c.before.before.before.requires _ c.if1.true
+returns : tie.Need-returns-then-keys-room
+returns c = room_twice c.requires _ c.if-keys-room.true
 
-count-runs-requires : tie.Need-count-runs-requires
+count-runs-requires : tie.Need-count_runs-requires
 count-runs-requires c κs = search rules
 
-returns-2 : tie.Need-returns-2
-returns-2 c = room_counted c.before.before.before.before.requires _ c.count_runs.ensures
+returns-2 : tie.Need-returns
+returns-2 c = room_counted c.requires _ c.count_runs.ensures
 
 pub room_enough_spec : {M : Type 1} → statement M
 room_enough_spec = tie.close (tie.spec mul-if1 returns count-runs-requires returns-2)

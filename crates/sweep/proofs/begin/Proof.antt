@@ -5,8 +5,8 @@ use Rattle.sweep.proofs.Stack.{standing_start}
 use Rattle.sweep.proofs.begin.Statement.{statement}
 use Rattle.sweep.proofs.begin.Tie as tie
 
-open-here-requires : tie.Need-open-here-requires
-open-here-requires c κs = let pre = c.before.before.before.before.requires in (pre.0, standing_start pre.1 pre.2 pre.3)
+open-here-requires : tie.Need-open_here-requires
+open-here-requires c κs = let pre = c.requires in (pre.0, standing_start pre.1 pre.2 pre.3)
 
 returns : tie.Need-returns
 returns c = search rules

@@ -20,49 +20,47 @@ gone_more ends depth to d h pos le i l m = ⊎_elim
     (λ lt. h i (omega arith) m)
     (eq-or-lt_of_le l)
 
-abbrev invariant-loop : tie.invariant-loop
+abbrev invariant-loop : tie.invariant-loop-d
 invariant-loop ends depth to d₀ d = (d ≤ depth) × ((i : ℕ) → d ≤ i → i < depth → get_or ends i 0 ≤ to)
 
-abbrev decreases-loop : tie.decreases-loop
+abbrev decreases-loop : tie.decreases-loop-d
 decreases-loop ends depth to d₀ d = d
 
-loop-holds : tie.Need-loop-init invariant-loop decreases-loop
+loop-holds : tie.Need-loop-d-init invariant-loop decreases-loop
 loop-holds c = (omega arith, λ i l m. absurd (omega arith))
 
-sub-if1 : tie.Need-overflow-sub-if1 invariant-loop decreases-loop
+sub-if1 : tie.Need-overflow_sub-d invariant-loop decreases-loop
 sub-if1 c = search rules
 
-mul-if1 : tie.Need-overflow-mul-if1 invariant-loop decreases-loop
+mul-if1 : tie.Need-offset_bounds-ends-d invariant-loop decreases-loop
 mul-if1 c = search rules
 
-element-copy-out-if1 : tie.Need-element-copy-out-if1 invariant-loop decreases-loop
+element-copy-out-if1 : tie.Need-bounds-ends-d invariant-loop decreases-loop
 element-copy-out-if1 c = omega arith
 
-returns : tie.Need-returns invariant-loop decreases-loop
+returns : tie.Need-returns-then-to-ends invariant-loop decreases-loop
 returns c = record {
   upto = omega arith;
   kept =
-      let at-loop = c.before.before.before in
-      let d = at-loop.loop.d in
-      λ i l. omega (arith, at-loop.before.requires.falls i (d - 1) (omega arith) (omega arith), c.if1.true);
-  gone = c.before.before.before.loop.invariant.1;
+      let d = c.loop-d.d in
+      λ i l. omega (arith, c.requires.falls i (d - 1) (omega arith) (omega arith), c.if-to-ends.true);
+  gone = c.loop-d.invariant.1;
 }
 
-sub-d : tie.Need-overflow-sub-d invariant-loop decreases-loop
+sub-d : tie.Need-overflow_sub-d-in-loop-d invariant-loop decreases-loop
 sub-d c = search rules
 
-loop-less : tie.Need-loop-smaller invariant-loop decreases-loop
+loop-less : tie.Need-loop-d-smaller invariant-loop decreases-loop
 loop-less c = search rules
 
-loop-again : tie.Need-loop-preserved invariant-loop decreases-loop
+loop-again : tie.Need-loop-d-preserved invariant-loop decreases-loop
 loop-again c =
-    let at-loop = c.before.before.before in
-    let l = at-loop.loop in
-    let a = at-loop.before.args in
-    (omega arith, gone_more a.ends.now a.depth a.to l.d l.invariant.1 (omega arith) c.if1.false)
+    let l = c.loop-d in
+    let a = c.args in
+    (omega arith, gone_more a.ends.now a.depth a.to l.d l.invariant.1 (omega arith) c.if-to-ends.false)
 
-returns-2 : tie.Need-returns-2 invariant-loop decreases-loop
-returns-2 c = record { upto = omega arith; kept = λ i l. absurd (omega arith); gone = c.before.loop.invariant.1 }
+returns-2 : tie.Need-returns invariant-loop decreases-loop
+returns-2 c = record { upto = omega arith; kept = λ i l. absurd (omega arith); gone = c.loop-d.invariant.1 }
 
 pub close_ended_spec : {M : Type 1} → statement M
 close_ended_spec =

@@ -11,58 +11,51 @@ use Rattle.sweep.proofs.Sweeping.{Sweeping, sweeping_start, sweeping_asks, sweep
 use Rattle.sweep.proofs.count_runs.Statement.{statement}
 use Rattle.sweep.proofs.count_runs.Tie as tie
 
-abbrev invariant-loop : tie.invariant-loop
+abbrev invariant-loop : tie.invariant-loop-s
 invariant-loop keys hops base start limit ends₀ open-hops₀ s₀ n₀ ends open-hops s n =
     Sweeping keys hops base start limit ends open-hops s.row s.depth s.at
     × (n ≡ counted (turns_from start (answer base (all_rows keys hops))) start (s.at - start))
     × (limit ≤ 4294967296)
 
-abbrev decreases-loop : tie.decreases-loop
+abbrev decreases-loop : tie.decreases-loop-s
 decreases-loop keys hops base start limit ends₀ open-hops₀ s₀ n₀ ends open-hops s n = limit - s.at
 
 -- the call, from the empty stack
-abbrev called : tie.After-open-hops invariant-loop decreases-loop → tie.Start invariant-loop decreases-loop
-called c = c.before.before.before.before
+begin-requires : tie.Need-begin-s-requires invariant-loop decreases-loop
+begin-requires c κs = let pre = c.requires in (pre.0, pre.1, refl, refl)
 
-begin-requires : tie.Need-begin-requires invariant-loop decreases-loop
-begin-requires c κs = let pre = (called c).requires in (pre.0, pre.1, refl, refl)
-
-loop-holds : tie.Need-loop-init invariant-loop decreases-loop
+loop-holds : tie.Need-loop-s-init invariant-loop decreases-loop
 loop-holds c =
-    let o = c.begin.ensures in
-    let pre = (called c.before).pre in
+    let o = c.begin-s.ensures in
+    let pre = c.requires in
     (sweeping_start _ _ _ pre.0 pre.2 o.1 o.0, counted_to_first _ _ _ o.0, pre.3)
 
-add-n : tie.Need-overflow-add-n invariant-loop decreases-loop
+add-n : tie.Need-overflow_add-n invariant-loop decreases-loop
 add-n c =
-    let at-loop = c.before.before in
-    let l = at-loop.loop in
-    let a = (called at-loop.before.before).args in
+    let l = c.loop-s in
+    let a = c.args in
     let f = answer a.base (all_rows a.keys.now a.hops.now) in
     let few = counted_at_most (turns_from a.start f) a.start (l.s.at - a.start) in
-    omega (arith, l.invariant.1, l.invariant.2, c.if1.true)
+    omega (arith, l.invariant.1, l.invariant.2, c.loop-s-test.true)
 
-next-turn-requires : tie.Need-next-turn-requires invariant-loop decreases-loop
+next-turn-requires : tie.Need-next_turn-s-requires invariant-loop decreases-loop
 next-turn-requires c κs =
-    let turn = c.before.before in
-    sweeping_asks turn.before.before.loop.invariant.0 turn.if1.true
+    sweeping_asks c.loop-s.invariant.0 c.loop-s-test.true
 
-loop-less : tie.Need-loop-smaller invariant-loop decreases-loop
-loop-less c = omega (arith, c.next-turn.ensures.past, c.next-turn.ensures.upto)
+loop-less : tie.Need-loop-s-smaller invariant-loop decreases-loop
+loop-less c = omega (arith, c.next_turn-s.ensures.past, c.next_turn-s.ensures.upto)
 
-loop-again : tie.Need-loop-preserved invariant-loop decreases-loop
+loop-again : tie.Need-loop-s-preserved invariant-loop decreases-loop
 loop-again c =
-    let turn = c.before.before.before in
-    let inv = turn.before.before.loop.invariant in
-    let before = turn.if1.true in
-    let t = c.next-turn.ensures in
+    let inv = c.loop-s.invariant in
+    let before = c.loop-s-test.true in
+    let t = c.next_turn-s.ensures in
     (sweeping_on inv.0 before t, sweeping_counted inv.0 before t inv.1, inv.2)
 
 returns : tie.Need-returns invariant-loop decreases-loop
 returns c =
-    let at-loop = c.before.before in
-    let l = at-loop.loop in
-    let there : l.s.at ≡ (called at-loop.before.before).args.limit = omega (arith, l.invariant.0.upto, c.if1.false) in
+    let l = c.loop-s in
+    let there : l.s.at ≡ c.args.limit = omega (arith, l.invariant.0.upto, c.loop-s-test.false) in
     rw there at l.invariant.1
 
 pub count_runs_spec : {M : Type 1} → statement M

@@ -8,66 +8,55 @@ use Rattle.sweep.proofs.Going.{Going, going_start, going_event, going_end, going
 use Rattle.sweep.proofs.next_turn.Statement.{statement}
 use Rattle.sweep.proofs.next_turn.Tie as tie
 
-abbrev invariant-loop : tie.invariant-loop
+abbrev invariant-loop : tie.invariant-loop-s
 invariant-loop keys hops base limit ends₀ open-hops₀ hop s₀ ends open-hops s =
     Going keys hops base limit s₀.at hop ends open-hops s.row s.depth s.at
 
-abbrev decreases-loop : tie.decreases-loop
+abbrev decreases-loop : tie.decreases-loop-s
 decreases-loop keys hops base limit ends₀ open-hops₀ hop s₀ ends open-hops s = limit - s.at
 
 -- the event that a step moves to
-abbrev at-event : tie.After-step invariant-loop decreases-loop → tie.After-next-event invariant-loop decreases-loop
-at-event c = c.before.before.before.before
+top-hop-requires : tie.Need-top_hop-hop-requires invariant-loop decreases-loop
+top-hop-requires c κs = let pre = c.requires in (few_open pre.0 pre.1, pre.1.hops_room)
 
-top-hop-requires : tie.Need-top-hop-requires invariant-loop decreases-loop
-top-hop-requires c κs = let pre = c.before.before.before.requires in (few_open pre.0 pre.1, pre.1.hops_room)
+loop-holds : tie.Need-loop-s-init invariant-loop decreases-loop
+loop-holds c = let pre = c.requires in going_start pre.0 pre.1 pre.2 c.top_hop-hop.ensures
 
-loop-holds : tie.Need-loop-init invariant-loop decreases-loop
-loop-holds c = let pre = c.before.before.before.before.requires in going_start pre.0 pre.1 pre.2 c.top-hop.ensures
-
-next-event-requires : tie.Need-next-event-requires invariant-loop decreases-loop
+next-event-requires : tie.Need-next_event-event-requires invariant-loop decreases-loop
 next-event-requires c κs =
-    let g = c.before.loop.invariant in
+    let g = c.loop-s.invariant in
     before_event g.sorted g.stack _ g.before (omega arith)
 
-returns : tie.Need-returns invariant-loop decreases-loop
-returns c = going_end c.before.before.before.loop.invariant c.before.next-event.ensures c.if1.true _ _
+returns : tie.Need-returns-then-limit-event invariant-loop decreases-loop
+returns c = going_end c.loop-s.invariant c.next_event-event.ensures c.if-limit-event.true _ _
 
-step-requires : tie.Need-step-requires invariant-loop decreases-loop
+step-requires : tie.Need-step-s-requires invariant-loop decreases-loop
 step-requires c κs =
-    let event = c.before.before.before in
-    let g = event.before.before.loop.invariant in
-    let e = event.next-event.ensures in
+    let g = c.loop-s.invariant in
+    let e = c.next_event-event.ensures in
     (g.sorted, going_event g e, omega (arith, e.past))
 
-top-hop-requires-2 : tie.Need-top-hop-requires-2 invariant-loop decreases-loop
+top-hop-requires-2 : tie.Need-top_hop-requires invariant-loop decreases-loop
 top-hop-requires-2 c κs =
-    let moved = c.before in
-    let g = (at-event moved).before.before.loop.invariant in
-    let k = moved.step.ensures.1 in
+    let g = c.loop-s.invariant in
+    let k = c.step-s.ensures.1 in
     (few_open g.sorted k, k.hops_room)
 
-returns-2 : tie.Need-returns-2 invariant-loop decreases-loop
+returns-2 : tie.Need-returns-then-top_hop-hop invariant-loop decreases-loop
 returns-2 c =
-    let moved = c.before.before.before in
-    let event = at-event moved in
-    let g = event.before.before.loop.inv in
-    going_turned g event.next-event.ensures moved.step.ensures.1 moved.step.ensures.0 c.before.top-hop2.ensures
-    c.if2.true
+    let g = c.loop-s.invariant in
+    going_turned g c.next_event-event.ensures c.step-s.ensures.1 c.step-s.ensures.0 c.top_hop.ensures
+    c.if-top_hop-hop.true
 
-loop-less : tie.Need-loop-smaller invariant-loop decreases-loop
+loop-less : tie.Need-loop-s-smaller invariant-loop decreases-loop
 loop-less c =
-    let moved = c.before.before.before in
-    let event = at-event moved in
-    omega (arith, event.next-event.ensures.past, moved.before.before.before.if1.false, moved.step.ensures.0)
+    omega (arith, c.next_event-event.ensures.past, c.if-limit-event.false, c.step-s.ensures.0)
 
-loop-again : tie.Need-loop-preserved invariant-loop decreases-loop
+loop-again : tie.Need-loop-s-preserved invariant-loop decreases-loop
 loop-again c =
-    let moved = c.before.before.before in
-    let event = at-event moved in
-    let g = event.before.before.loop.inv in
-    going_on g event.next-event.ensures moved.step.ensures.1 moved.step.ensures.0 c.before.top-hop2.ensures
-    moved.before.before.before.if1.false c.if2.false
+    let g = c.loop-s.invariant in
+    going_on g c.next_event-event.ensures c.step-s.ensures.1 c.step-s.ensures.0 c.top_hop.ensures
+    c.if-limit-event.false c.if-top_hop-hop.false
 
 pub next_turn_spec : {M : Type 1} → statement M
 next_turn_spec =

@@ -6,14 +6,13 @@ use Rattle.sweep.proofs.Stack.{falling, closing}
 use Rattle.sweep.proofs.step.Statement.{statement}
 use Rattle.sweep.proofs.step.Tie as tie
 
-close-ended-requires : tie.Need-close-ended-requires
-close-ended-requires c κs = let pre = c.before.before.before.requires in falling pre.0 pre.1
+close-ended-requires : tie.Need-close_ended-depth-requires
+close-ended-requires c κs = let pre = c.requires in falling pre.0 pre.1
 
-open-here-requires : tie.Need-open-here-requires
+open-here-requires : tie.Need-open_here-requires
 open-here-requires c κs =
-    let closed = c.before.before in
-    let pre = closed.before.before.before.before.requires in
-    (pre.0, closing pre.0 pre.1 _ _ pre.2 closed.close-ended.ensures)
+    let pre = c.requires in
+    (pre.0, closing pre.0 pre.1 _ _ pre.2 c.close_ended-depth.ensures)
 
 returns : tie.Need-returns
 returns c = search rules

@@ -28,20 +28,20 @@ top_none : (base depth : ℕ) (open-hops : List ℕ) → depth ≡ 0 → base �
 unfolding last_or
 top_none base depth open-hops e = rw e
 
-sub-result : tie.Need-overflow-sub-result
+sub-result : tie.Need-overflow_sub-result
 sub-result c = search rules
 
-mul-result : tie.Need-overflow-mul-result
+mul-result : tie.Need-offset_bounds-open_hops-depth
 mul-result c = search rules
 
-element-copy-out-result : tie.Need-element-copy-out-result
+element-copy-out-result : tie.Need-bounds-open_hops-depth
 element-copy-out-result c = search rules
 
-returns : tie.Need-returns
-returns c = let a = c.before.args in top_none a.base a.depth a.open-hops.now c.if1.true
+returns : tie.Need-returns-then-depth-eq0
+returns c = let a = c.args in top_none a.base a.depth a.open_hops.now c.if-depth-eq0.true
 
-returns-2 : tie.Need-returns-2
-returns-2 c = let a = c.before.before.args in top_is a.base a.depth a.open-hops.now (omega arith) (omega arith)
+returns-2 : tie.Need-returns-else-depth-eq0
+returns-2 c = let a = c.args in top_is a.base a.depth a.open_hops.now (omega arith) (omega arith)
 
 pub top_hop_spec : {M : Type 1} → statement M
 top_hop_spec = tie.close (tie.spec sub-result mul-result element-copy-out-result returns returns-2)

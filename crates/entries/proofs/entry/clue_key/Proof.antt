@@ -15,19 +15,19 @@ shifted : (a b : ℕ) → a < addresses → (a / 2 ^ b * 2 ^ b) % 18446744073709
 shifted a b l =
     mod-eq_of_lt {n = a / 2 ^ b * 2 ^ b} (omega (arith, div-mul-le_self a (2 ^ b))) ∙ omega (arith, div-add-mod' a (2 ^ b))
 
-sub-bits : tie.Need-overflow-sub-bits
+sub-bits : tie.Need-overflow_sub-bits
 sub-bits c = search rules
 
-shr-result : tie.Need-overflow-shr-result
+shr-result : tie.Need-overflow_shr-result
 shr-result c = search rules
 
-shl-result : tie.Need-overflow-shl-result
+shl-result : tie.Need-overflow_shl-result
 shl-result c = search rules
 
-mul-result : tie.Need-overflow-mul-result
+mul-result : tie.Need-overflow_mul-result
 mul-result c = omega (arith, shifted c.args.a (32 - c.args.len) c.requires.1)
 
-add-result : tie.Need-overflow-add-result
+add-result : tie.Need-overflow_add-result
 add-result c = omega (arith, shifted c.args.a (32 - c.args.len) c.requires.1)
 
 returns : tie.Need-returns

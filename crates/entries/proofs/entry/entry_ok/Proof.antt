@@ -13,53 +13,53 @@ use Rattle.entries.proofs.Clue.{prefix_parts, own_clue}
 use Rattle.entries.proofs.entry.entry_ok.Statement.{statement}
 use Rattle.entries.proofs.entry.entry_ok.Tie as tie
 
-is-prefix-requires : tie.Need-is-prefix-requires
+is-prefix-requires : tie.Need-is_prefix-requires
 is-prefix-requires c κs = search rules
 
-returns : tie.Need-returns
-returns c = not_a_key _ _ _ _ (sym c.before.is_prefix_lem.ensures ∙ not-true _ c.if1.true)
+returns : tie.Need-returns-then-not-is_prefix
+returns c = not_a_key _ _ _ _ (sym c.is_prefix.ensures ∙ c.if-not-is_prefix.true)
 
 network-requires : tie.Need-network-requires
 network-requires c κs = search rules
 
 -- the function's start, where the key is known to be a prefix
-abbrev at_start : tie.Else1 → tie.Start
+abbrev at_start : tie.Else-not-is_prefix → tie.Start
 at_start c = c.before.before.before.before
 
-is_prefix_lem : (c : tie.Else1) → is_prefix (at_start c).args.key ≡ true
-is_prefix_lem c = sym c.before.is_prefix_lem.ensures ∙ not-false _ c.if1.false
+is_prefix_lem : (c : tie.Else-not-is_prefix) → is_prefix (at_start c).args.key ≡ true
+is_prefix_lem c = sym c.is_prefix.ensures ∙ c.if-not-is_prefix.false
 
-hop-around-requires : tie.Need-hop-around-requires
+hop-around-requires : tie.Need-hop_around-requires
 hop-around-requires c κs =
     let p = prefix_parts _ (is_prefix_lem c.before) in
     ((at_start c.before).requires, (p.short, omega (arith, c.network.ensures, p.within)))
 
 -- what was found is the key's own hop
-found : (c : tie.After-hop-around)
+found : (c : tie.After-hop_around)
     → let args = (at_start c.before.before).args in
-    c.hop-around.result ≡ hop_around (all_rows args.keys.now args.hops.now) args.key
+    c.hop_around.result ≡ hop_around (all_rows args.keys.now args.hops.now) args.key
 found c =
     let n = c.before in
     let args = (at_start n.before).args in
     let around = hop_around (all_rows args.keys.now args.hops.now) in
-    c.hop-around.ensures
+    c.hop_around.ensures
     ∙ ap (λ net. around (clue_of (length_of args.key) net)) n.network.ensures
     ∙ ap around (own_clue args.key (is_prefix_lem n.before))
 
-returns-2 : tie.Need-returns-2
+returns-2 : tie.Need-returns-then-hop-hop_around
 returns-2 c =
     let h = c.before in
-    another_hop _ _ _ _ (is_prefix_lem h.before.before) (found h) (λ e. omega (arith, c.if2.true, e))
+    another_hop _ _ _ _ (is_prefix_lem h.before.before) (found h) (λ e. omega (arith, c.if-hop-hop_around.true, e))
 
 extension-requires : tie.Need-extension-requires
 extension-requires c κs =
     let p = c.before.before.before in
     ((at_start p).requires, is_prefix_lem p)
 
-returns-3 : tie.Need-returns-3
+returns-3 : tie.Need-returns
 returns-3 c =
     let h = c.before.before in
-    mark_decides _ _ _ _ (is_prefix_lem h.before.before) (found h) c.before.if2.false c.extension.ensures
+    mark_decides _ _ _ _ (is_prefix_lem h.before.before) (found h) c.if-hop-hop_around.false c.extension.ensures
 
 pub entry_ok_spec : {M : Type 1} → statement M
 entry_ok_spec =

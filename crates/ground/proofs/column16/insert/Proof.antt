@@ -8,31 +8,31 @@ use Rattle.ground.proofs.Column.{inserted_part, inserted_beyond, inserted_full}
 use Rattle.ground.proofs.column16.insert.Statement.{statement}
 use Rattle.ground.proofs.column16.insert.Tie as tie
 
-mul-insert-front : tie.Need-overflow-mul-insert-front
+mul-insert-front : tie.Need-offset_bounds-column-at
 mul-insert-front c = search rules
 
-sub-insert-front : tie.Need-overflow-sub-insert-front
+sub-insert-front : tie.Need-slice_bounds-insert_front-count
 sub-insert-front c = search rules
 
-part-insert-front-start : tie.Need-slice-bounds-insert-front-start
+part-insert-front-start : tie.Need-slice_bounds-insert_front-start
 part-insert-front-start c = search rules
 
-part-insert-front-end : tie.Need-slice-bounds-insert-front-end
+part-insert-front-end : tie.Need-slice_bounds-insert_front-end
 part-insert-front-end c = search rules
 
-insert-front-requires : tie.Need-insert-front-requires
+insert-front-requires : tie.Need-insert_front-requires
 insert-front-requires c κs = simp (length-take, length-drop) (omega arith)
 
-same_length : tie.Need-same-length
+same_length : tie.Need-shape_of-column
 same_length c = search rules
 
-returns : tie.Need-returns
-returns c = inserted_part _ _ _ _ _ (omega arith) (omega arith) refl c.before.before.insert-front.ensures
+returns : tie.Need-returns-then-count-column
+returns c = inserted_part _ _ _ _ _ (omega arith) (omega arith) refl c.before.before.insert_front.ensures
 
-returns-2 : tie.Need-returns-2
+returns-2 : tie.Need-returns-else-count-column
 returns-2 c = let a = c.before.before.before.args in sym (inserted_full a.column.now a.count a.at a.number (omega arith))
 
-returns-3 : tie.Need-returns-3
+returns-3 : tie.Need-returns-else-at-count
 returns-3 c = let a = c.before.before.args in sym (inserted_beyond a.column.now a.count a.at a.number (omega arith))
 
 pub insert_spec : {M : Type 1} → statement M

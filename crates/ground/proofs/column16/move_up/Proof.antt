@@ -8,46 +8,46 @@ use Rattle.ground.proofs.Block.{Rising, up_start, rising_long, rising_next}
 use Rattle.ground.proofs.column16.move_up.Statement.{statement}
 use Rattle.ground.proofs.column16.move_up.Tie as tie
 
-abbrev invariant-loop : tie.invariant-loop
+abbrev invariant-loop : tie.invariant-loop-i
 invariant-loop column₀ count from by i₀ column i = Rising column₀ count from by i column
 
-abbrev decreases-loop : tie.decreases-loop
+abbrev decreases-loop : tie.decreases-loop-i
 decreases-loop column₀ count from by i₀ column i = i - from
 
-loop-holds : tie.Need-loop-init invariant-loop decreases-loop
+loop-holds : tie.Need-loop-i-init invariant-loop decreases-loop
 loop-holds c = record { from_on = c.requires.0; so_far = omega arith; room = c.requires.1; is = up_start _ _ _ }
 
-sub-next : tie.Need-overflow-sub-next invariant-loop decreases-loop
+sub-next : tie.Need-overflow_sub-next invariant-loop decreases-loop
 sub-next c = omega arith
 
-mul-column : tie.Need-overflow-mul-column invariant-loop decreases-loop
-mul-column c = omega (arith, c.before.loop.invariant.so_far, c.before.loop.invariant.room)
+mul-column : tie.Need-offset_bounds-column-next invariant-loop decreases-loop
+mul-column c = omega (arith, c.before.loop-i.invariant.so_far, c.before.loop-i.invariant.room)
 
-slice-read-column : tie.Need-slice-read-column invariant-loop decreases-loop
-slice-read-column c = omega (arith, rising_long c.before.before.loop.invariant, c.before.before.loop.invariant.so_far, c.before.before.loop.invariant.room)
+slice-read-column : tie.Need-bounds-column-next invariant-loop decreases-loop
+slice-read-column c = omega (arith, rising_long c.before.before.loop-i.invariant, c.before.before.loop-i.invariant.so_far, c.before.before.loop-i.invariant.room)
 
-add-column : tie.Need-overflow-add-column invariant-loop decreases-loop
-add-column c = omega (arith, c.before.before.loop.invariant.so_far, c.before.before.loop.invariant.room)
+add-column : tie.Need-overflow_add-column invariant-loop decreases-loop
+add-column c = omega (arith, c.before.before.loop-i.invariant.so_far, c.before.before.loop-i.invariant.room)
 
-mul-column-2 : tie.Need-overflow-mul-column-2 invariant-loop decreases-loop
-mul-column-2 c = omega (arith, c.before.before.loop.invariant.so_far, c.before.before.loop.invariant.room)
+mul-column-2 : tie.Need-offset_bounds-column-next-in-loop-i invariant-loop decreases-loop
+mul-column-2 c = omega (arith, c.before.before.loop-i.invariant.so_far, c.before.before.loop-i.invariant.room)
 
-slice-write-column : tie.Need-slice-write-column invariant-loop decreases-loop
-slice-write-column c = omega (arith, rising_long c.before.before.loop.invariant, c.before.before.loop.invariant.so_far, c.before.before.loop.invariant.room)
+slice-write-column : tie.Need-bounds-column-next-in-loop-i invariant-loop decreases-loop
+slice-write-column c = omega (arith, rising_long c.before.before.loop-i.invariant, c.before.before.loop-i.invariant.so_far, c.before.before.loop-i.invariant.room)
 
-loop-less : tie.Need-loop-smaller invariant-loop decreases-loop
+loop-less : tie.Need-loop-i-smaller invariant-loop decreases-loop
 loop-less c = omega arith
 
-loop-again : tie.Need-loop-preserved invariant-loop decreases-loop
-loop-again c = rising_next c.before.before.loop.invariant refl (omega arith)
+loop-again : tie.Need-loop-i-preserved invariant-loop decreases-loop
+loop-again c = rising_next c.before.before.loop-i.invariant refl (omega arith)
 
-same_length : tie.Need-same-length invariant-loop decreases-loop
-same_length c = rising_long c.before.loop.invariant
+same_length : tie.Need-shape_of-column invariant-loop decreases-loop
+same_length c = rising_long c.before.loop-i.invariant
 
 returns : tie.Need-returns invariant-loop decreases-loop
 returns c =
-    let inv = c.before.loop.invariant in
-    let at_end : c.before.loop.i ≡ c.before.before.args.from = omega (arith, inv.from_on) in
+    let inv = c.before.loop-i.invariant in
+    let at_end : c.before.loop-i.i ≡ c.before.before.args.from = omega (arith, inv.from_on) in
     inv.is ∙ ap (λ n. moved_up c.before.before.args.count n c.before.before.args.by c.before.before.args.column.now) at_end
 
 pub move_up_spec : {M : Type 1} → statement M

@@ -7,19 +7,19 @@ use borrow.Author.Rules.{rules}
 use Rattle.ground.proofs.column16.set.Statement.{statement}
 use Rattle.ground.proofs.column16.set.Tie as tie
 
-mul-column : tie.Need-overflow-mul-column
+mul-column : tie.Need-offset_bounds-column-at
 mul-column c = search rules
 
-slice-write-column : tie.Need-slice-write-column
+slice-write-column : tie.Need-bounds-column-at
 slice-write-column c = search rules
 
-same_length : tie.Need-same-length
+same_length : tie.Need-shape_of-column
 same_length c = search rules
 
-returns : tie.Need-returns
+returns : tie.Need-returns-then-at-column
 returns c = search rules
 
-returns-2 : tie.Need-returns-2
+returns-2 : tie.Need-returns-else-at-column
 returns-2 c = let a = c.before.args in sym (set_out a.column.now a.at a.number (omega arith))
 
 pub set_spec : {M : Type 1} → statement M

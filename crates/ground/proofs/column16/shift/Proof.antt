@@ -9,33 +9,33 @@ use Rattle.ground.proofs.Block.{shifted_up, shifted_down}
 use Rattle.ground.proofs.column16.shift.Statement.{statement}
 use Rattle.ground.proofs.column16.shift.Tie as tie
 
-move-up-requires : tie.Need-move-up-requires
+move-up-requires : tie.Need-move_up-requires
 move-up-requires c κs = search rules
 
-same_length : tie.Need-same-length
+same_length : tie.Need-shape_of-column-then-from-to
 same_length c = search rules
 
-returns : tie.Need-returns
+returns : tie.Need-returns-then-from-to
 returns c =
     let pre = c.before.before.before.before.before.before.requires in
     c.before.before.move_up.ensures ∙ shifted_up _ _ _ _ pre.0 pre.1 pre.2 (omega arith)
 
-sub_by : tie.Need-overflow-sub-by
+sub_by : tie.Need-overflow_sub-by
 sub_by c = search rules
 
-move-down-requires : tie.Need-move-down-requires
+move-down-requires : tie.Need-move_down-requires
 move-down-requires c κs = search rules
 
-sub-clear : tie.Need-overflow-sub-clear
+sub-clear : tie.Need-overflow_sub-count
 sub-clear c = search rules
 
 clear-requires : tie.Need-clear-requires
 clear-requires c κs = search rules
 
-same-length-2 : tie.Need-same-length-2
+same-length-2 : tie.Need-shape_of-column
 same-length-2 c = search rules
 
-returns-2 : tie.Need-returns-2
+returns-2 : tie.Need-returns
 returns-2 c =
     let cleaned = c.before.before in
     let moved = cleaned.before.before.before.before in

@@ -8,46 +8,46 @@ use Rattle.ground.proofs.Block.{Sinking, down_start, sinking_long, sinking_next}
 use Rattle.ground.proofs.column32.move_down.Statement.{statement}
 use Rattle.ground.proofs.column32.move_down.Tie as tie
 
-abbrev invariant-loop : tie.invariant-loop
+abbrev invariant-loop : tie.invariant-loop-i
 invariant-loop column₀ count from by i₀ column i = Sinking column₀ count from by i column
 
-abbrev decreases-loop : tie.decreases-loop
+abbrev decreases-loop : tie.decreases-loop-i
 decreases-loop column₀ count from by i₀ column i = count - i
 
-loop-holds : tie.Need-loop-init invariant-loop decreases-loop
+loop-holds : tie.Need-loop-i-init invariant-loop decreases-loop
 loop-holds c = record { below = c.requires.0; from_on = omega arith; so_far = c.requires.1; room = c.requires.2; is = down_start _ _ _ }
 
-mul-column : tie.Need-overflow-mul-column invariant-loop decreases-loop
-mul-column c = omega (arith, c.before.loop.invariant.room)
+mul-column : tie.Need-offset_bounds-column-i invariant-loop decreases-loop
+mul-column c = omega (arith, c.before.loop-i.invariant.room)
 
-slice-read-column : tie.Need-slice-read-column invariant-loop decreases-loop
-slice-read-column c = omega (arith, sinking_long c.before.before.loop.invariant, c.before.before.loop.invariant.room)
+slice-read-column : tie.Need-bounds-column-i invariant-loop decreases-loop
+slice-read-column c = omega (arith, sinking_long c.before.before.loop-i.invariant, c.before.before.loop-i.invariant.room)
 
-sub-column : tie.Need-overflow-sub-column invariant-loop decreases-loop
-sub-column c = omega (arith, c.before.before.loop.invariant.below, c.before.before.loop.invariant.from_on)
+sub-column : tie.Need-overflow_sub-column invariant-loop decreases-loop
+sub-column c = omega (arith, c.before.before.loop-i.invariant.below, c.before.before.loop-i.invariant.from_on)
 
-mul-column-2 : tie.Need-overflow-mul-column-2 invariant-loop decreases-loop
-mul-column-2 c = omega (arith, c.before.before.loop.invariant.room)
+mul-column-2 : tie.Need-offset_bounds-column-i-in-loop-i invariant-loop decreases-loop
+mul-column-2 c = omega (arith, c.before.before.loop-i.invariant.room)
 
-slice-write-column : tie.Need-slice-write-column invariant-loop decreases-loop
-slice-write-column c = omega (arith, sinking_long c.before.before.loop.invariant, c.before.before.loop.invariant.room)
+slice-write-column : tie.Need-bounds-column-i-in-loop-i invariant-loop decreases-loop
+slice-write-column c = omega (arith, sinking_long c.before.before.loop-i.invariant, c.before.before.loop-i.invariant.room)
 
-add-i : tie.Need-overflow-add-i invariant-loop decreases-loop
+add-i : tie.Need-overflow_add-i invariant-loop decreases-loop
 add-i c = omega arith
 
-loop-less : tie.Need-loop-smaller invariant-loop decreases-loop
+loop-less : tie.Need-loop-i-smaller invariant-loop decreases-loop
 loop-less c = omega arith
 
-loop-again : tie.Need-loop-preserved invariant-loop decreases-loop
-loop-again c = sinking_next c.before.before.loop.invariant (omega arith)
+loop-again : tie.Need-loop-i-preserved invariant-loop decreases-loop
+loop-again c = sinking_next c.before.before.loop-i.invariant (omega arith)
 
-same_length : tie.Need-same-length invariant-loop decreases-loop
-same_length c = sinking_long c.before.loop.invariant
+same_length : tie.Need-shape_of-column invariant-loop decreases-loop
+same_length c = sinking_long c.before.loop-i.invariant
 
 returns : tie.Need-returns invariant-loop decreases-loop
 returns c =
-    let inv = c.before.loop.invariant in
-    let at_end : c.before.loop.i ≡ c.before.before.args.count = omega (arith, inv.so_far) in
+    let inv = c.before.loop-i.invariant in
+    let at_end : c.before.loop-i.i ≡ c.before.before.args.count = omega (arith, inv.so_far) in
     inv.is ∙ ap (λ n. moved_down n c.before.before.args.from c.before.before.args.by c.before.before.args.column.now) at_end
 
 pub move_down_spec : {M : Type 1} → statement M

@@ -8,53 +8,53 @@ use Rattle.halving.proofs.Finding.{none_lower, first_above, Finding, finding_sta
 use Rattle.halving.proofs.column32.lower.Statement.{statement}
 use Rattle.halving.proofs.column32.lower.Tie as tie
 
-abbrev invariant-loop : tie.invariant-loop
+abbrev invariant-loop : tie.invariant-loop-s
 invariant-loop column k n s₀ s = Finding column k n s.place s.low s.high
 
-abbrev decreases-loop : tie.decreases-loop
+abbrev decreases-loop : tie.decreases-loop-s
 decreases-loop column k n s₀ s = s.high - s.low
 
-returns : tie.Need-returns invariant-loop decreases-loop
+returns : tie.Need-returns-then-n-eq0 invariant-loop decreases-loop
 returns c = λ a. none_lower _ _ (omega arith)
 
-shared-slice-read-if2 : tie.Need-shared-slice-read-if2 invariant-loop decreases-loop
+shared-slice-read-if2 : tie.Need-bounds-column-0 invariant-loop decreases-loop
 shared-slice-read-if2 c = omega arith
 
-cast-if2 : tie.Need-overflow-cast-if2 invariant-loop decreases-loop
-cast-if2 c = omega (arith, c.shared-slice-known2.given 0)
+cast-if2 : tie.Need-overflow_cast-column invariant-loop decreases-loop
+cast-if2 c = omega (arith, c.shared_slice_known-2-1.given 0)
 
-returns-2 : tie.Need-returns-2 invariant-loop decreases-loop
+returns-2 : tie.Need-returns-then-k-column invariant-loop decreases-loop
 returns-2 c = λ a. first_above _ _ (omega arith) a
 
-whole-requires : tie.Need-whole-requires invariant-loop decreases-loop
+whole-requires : tie.Need-whole-s-requires invariant-loop decreases-loop
 whole-requires c κs = search rules
 
-loop-holds : tie.Need-loop-init invariant-loop decreases-loop
-loop-holds c = finding_start (omega arith) (omega arith) (omega arith) c.whole.ensures
+loop-holds : tie.Need-loop-s-init invariant-loop decreases-loop
+loop-holds c = finding_start (omega arith) (omega arith) (omega arith) c.whole-s.ensures
 
-mul-narrow : tie.Need-overflow-mul-narrow invariant-loop decreases-loop
-mul-narrow c = omega (arith, finding_bounds c.before.before.loop.invariant)
+mul-narrow : tie.Need-offset_bounds-column-place invariant-loop decreases-loop
+mul-narrow c = omega (arith, finding_bounds c.before.before.loop-s.invariant)
 
-shared-slice-read-narrow : tie.Need-shared-slice-read-narrow invariant-loop decreases-loop
-shared-slice-read-narrow c = omega (arith, finding_bounds c.before.before.before.loop.invariant)
+shared-slice-read-narrow : tie.Need-bounds-column-place invariant-loop decreases-loop
+shared-slice-read-narrow c = omega (arith, finding_bounds c.before.before.before.loop-s.invariant)
 
-cast-narrow : tie.Need-overflow-cast-narrow invariant-loop decreases-loop
-cast-narrow c = omega (arith, c.shared-slice-known3.given c.before.before.before.loop.s.place)
+cast-narrow : tie.Need-overflow_cast-column-in-loop-s invariant-loop decreases-loop
+cast-narrow c = omega (arith, c.shared_slice_known-in-loop-s-1.given c.before.before.before.loop-s.s.place)
 
-narrow-requires : tie.Need-narrow-requires invariant-loop decreases-loop
-narrow-requires c κs = let b = finding_bounds c.before.before.before.loop.invariant in (b.0, omega arith, omega arith)
+narrow-requires : tie.Need-narrow-s-requires invariant-loop decreases-loop
+narrow-requires c κs = let b = finding_bounds c.before.before.before.loop-s.invariant in (b.0, omega arith, omega arith)
 
-loop-less : tie.Need-loop-smaller invariant-loop decreases-loop
-loop-less c = finding_closer c.before.before.before.before.loop.invariant (omega arith) c.narrow.ensures
+loop-less : tie.Need-loop-s-smaller invariant-loop decreases-loop
+loop-less c = finding_closer c.before.before.before.before.loop-s.invariant (omega arith) c.narrow-s.ensures
 
-loop-again : tie.Need-loop-preserved invariant-loop decreases-loop
-loop-again c = finding_narrowed c.before.before.before.before.loop.invariant (omega arith) c.narrow.ensures
+loop-again : tie.Need-loop-s-preserved invariant-loop decreases-loop
+loop-again c = finding_narrowed c.before.before.before.before.loop-s.invariant (omega arith) c.narrow-s.ensures
 
-add-result : tie.Need-overflow-add-result invariant-loop decreases-loop
-add-result c = omega (arith, finding_bounds c.before.before.before.loop.invariant)
+add-result : tie.Need-overflow_add-result invariant-loop decreases-loop
+add-result c = omega (arith, finding_bounds c.before.before.before.loop-s.invariant)
 
-returns-3 : tie.Need-returns-3 invariant-loop decreases-loop
-returns-3 c = λ a. finding_end c.before.before.before.loop.invariant (omega arith) a
+returns-3 : tie.Need-returns invariant-loop decreases-loop
+returns-3 c = λ a. finding_end c.before.before.before.loop-s.invariant (omega arith) a
 
 pub lower_spec : {M : Type 1} → statement M
 lower_spec =

@@ -6,17 +6,17 @@ use Rattle.cidr.proofs.Prefix.{prefix_parts, end_within}
 use Rattle.within.proofs.inside.inner_upto.Statement.{statement}
 use Rattle.within.proofs.inside.inner_upto.Tie as tie
 
-end-of-requires : tie.Need-end-of-requires
+end-of-requires : tie.Need-end_of-end-requires
 end-of-requires c κs = search rules
 
-mul-lower : tie.Need-overflow-mul-lower
-mul-lower c = omega (arith, c.end_of_lem.ensures, end_within _ (prefix_parts _ c.before.before.requires.0))
+mul-lower : tie.Need-overflow_mul-end
+mul-lower c = omega (arith, c.end_of-end.ensures, end_within _ (prefix_parts _ c.requires.0))
 
 lower-requires : tie.Need-lower-requires
 lower-requires c κs = search rules
 
 returns : tie.Need-returns
-returns c = rw c.before.end_of_lem.ensures at (c.lower.ensures c.before.before.before.requires.1)
+returns c = rw c.end_of-end.ensures at (c.lower.ensures c.requires.1)
 
 pub inner_upto_spec : {M : Type 1} → statement M
 inner_upto_spec = tie.close (tie.spec end-of-requires mul-lower lower-requires returns)
