@@ -7,7 +7,7 @@ use edit::Edit;
 
 // Rule 7.10: what an edit returns to C, its number, the changed number, and the new counts of rows and of runs.
 #[repr(C)]
-#[derive(Drop)]
+#[derive(Clone, Copy)]
 pub struct WhelkEdit {
     pub number: usize,
     pub changed: u64,

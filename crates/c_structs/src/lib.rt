@@ -16,7 +16,7 @@ use segment::Packing;
 
 // Rule 7.10: what an import returns to C, its number and the eight counts.
 #[repr(C)]
-#[derive(Drop)]
+#[derive(Clone, Copy)]
 pub struct WhelkCounts {
     pub number: usize,
     pub rows: usize,
@@ -60,7 +60,7 @@ pub fn counts_for_c(i: Imported) -> WhelkCounts
 
 // Rule 7.10: what a packing returns to C, its number, the width, and the counts of words and of hops.
 #[repr(C)]
-#[derive(Drop)]
+#[derive(Clone, Copy)]
 pub struct WhelkPacked {
     pub number: usize,
     pub width: usize,

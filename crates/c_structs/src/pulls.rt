@@ -9,7 +9,7 @@ use rows::{NextRow, RowRead};
 
 // Rule 7.10: what a pull returns to C: 1 if there is a row, the row's number, its key and hop, and the place of the next pull.
 #[repr(C)]
-#[derive(Drop)]
+#[derive(Clone, Copy)]
 pub struct WhelkRow {
     pub found: usize,
     pub number: usize,

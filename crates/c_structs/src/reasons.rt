@@ -8,7 +8,7 @@ use why::Reason;
 
 // Rule 18.6: what a listing returns to C: its number, how many places it listed, and the place of the row that decides.
 #[repr(C)]
-#[derive(Drop)]
+#[derive(Clone, Copy)]
 pub struct WhelkReason {
     pub number: usize,
     pub listed: usize,

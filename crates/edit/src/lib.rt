@@ -16,7 +16,7 @@ use agreed::edit_agreed;
 use runs::Paired;
 
 // What an edit gives: the changed number and the new counts, or 15, 11, 14, 16 or 13.
-#[derive(Drop)]
+#[derive(Clone, Copy)]
 pub enum Edit {
     Done {
         changed: u64,

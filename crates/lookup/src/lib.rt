@@ -9,7 +9,7 @@ ghost use Rattle.lookup.specs.Lookup.{last_of, run_lookup_gave, run_lookup, byte
 ghost use Rattle.lookup.specs.Inside.Reached.{ReachedBy};
 
 // What a run lookup gives: the hop, the last address of the run found and the number of probes, or 11.
-#[derive(Drop)]
+#[derive(Clone, Copy)]
 pub enum Probed {
     Hop { hop: u16, last: u32, probes: usize },
     IllFormed,
@@ -19,7 +19,7 @@ pub enum Probed {
 pub const LAST_ADDRESS: u32 = 4294967295;
 
 // Where halving over starts ends: the place low, the last address of the run found, and the number of probes.
-#[derive(Drop)]
+#[derive(Clone, Copy)]
 struct Reached {
     low: usize,
     last: u32,
@@ -114,7 +114,7 @@ fn hop_at(bytes: &[u8], i: usize) -> u16
 }
 
 // What a lookup over run bytes gives: the hop and the last address of the run found, or 11.
-#[derive(Drop)]
+#[derive(Clone, Copy)]
 pub enum Held {
     Hop { hop: u16, last: u32 },
     IllFormed,

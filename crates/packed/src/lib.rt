@@ -6,7 +6,7 @@ ghost use Rattle.std.specs.Prelude.{◌≡◌, ◌+◌, ◌≤◌};
 ghost use Rattle.packed.specs.Lookup.{block_of, ones_to, segment_lent, packed_gave, packed_lookup};
 
 // What a packed lookup gives: the hop, or 19.
-#[derive(Drop)]
+#[derive(Clone, Copy)]
 pub enum PackedHop {
     Hop(u16),
     Outside,

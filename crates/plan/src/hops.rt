@@ -10,7 +10,7 @@ ghost use Rattle.plan.specs.Found.{FoundIn};
 use routes::Place;
 
 // Where a key stands or would stand, and whether it is there.
-#[derive(Drop)]
+#[derive(Clone, Copy)]
 pub struct Found {
     pub at: usize,
     pub listed: bool,

@@ -6,7 +6,7 @@ use crate::table::Splice;
 use within::inside::Middle;
 
 // The slot from which the runs inside are written, and the start that stands there.
-#[derive(Drop)]
+#[derive(Clone, Copy)]
 pub struct Joint {
     pub from: usize,
     pub first: u32,

@@ -21,7 +21,7 @@ use table::Splice;
 use within::inside::{inner_from, inner_upto, measure, outer_size};
 
 // The rows inside the prefix, the hop at its own addresses afterwards, the new counts, the changed number, and how the runs are spliced.
-#[derive(Drop)]
+#[derive(Clone, Copy)]
 pub struct Plan {
     pub from: usize,
     pub upto: usize,

@@ -5,7 +5,7 @@ ghost use Rattle.plan.specs.Splice.{starts_inside, Splices, Spliced};
 
 // How a run table is spliced: the slot of the first run inside and the start that stands there, the first old run of the block and the slot
 // that it goes to, and the hop of a run that begins at the prefix's end.
-#[derive(Drop)]
+#[derive(Clone, Copy)]
 pub struct Splice {
     pub from: usize,
     pub first: u32,

@@ -22,7 +22,7 @@ use Rattle.rows.specs.RowNumber.{row_shape}
 use Rattle.rows.specs.Reading.{bad, is_digit, digits, after_digits, is_number, begins, is_end, before, zero_in_front, Field, field}
 use Rattle.rows.specs.Reading.{form, fields_of, has_zero_in_front, value_from, in_places, judged_numbers, values_of, judged, read_row}
 use Rattle.rows.specs.Inside.Fields.{digits_from, field_from, read_from}
-use Rattle.rows.proofs.Fields.{after_is, digits_within, digits_next, digits_value, zero_seen, zero_seen}
+use Rattle.rows.proofs.Fields.{after_is, digits_within, digits_next, digits_value, zero_seen, zero_seen_lem}
 
 -- five values and the hop, in their places
 abbrev filled : List ℕ → ℕ → Values
@@ -80,7 +80,7 @@ module _ (row : List ℕ) (at : ℕ) (h : at ≤ length row) (zeros : Bool) (v :
         drop-drop (length ds) at row,
         drop_all,
         or-false,
-        zero_seen row at d.next one (omega (arith, few, digits_next row at 5 d e)),
+        zero_seen_lem row at d.next one (omega (arith, few, digits_next row at 5 d e)),
       )
       (sym (ap (judged_numbers (zeros || zero_in_front ds)) (in_places_lem v (value_from 0 ds) five ∙ ap (filled v) value)))
     where

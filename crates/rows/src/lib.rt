@@ -12,7 +12,7 @@ ghost use Rattle.rows.specs.Pull.{pull, pull_gave, PulledBy};
 use parse::{NumberAt, either, field_from, read_hop};
 
 // What one row says by itself: a prefix, as its key, with a hop, or what is wrong with it.
-#[derive(Drop)]
+#[derive(Clone, Copy)]
 pub enum RowRead {
     Good { key: u64, hop: u16 },
     Shape,
@@ -22,14 +22,14 @@ pub enum RowRead {
 }
 
 // What a pull finds: a row, as it reads by itself, or the feed's end.
-#[derive(Drop)]
+#[derive(Clone, Copy)]
 pub enum NextRow {
     Row(RowRead),
     End,
 }
 
 // What a pull gives: what it finds, and the place of the next pull.
-#[derive(Drop)]
+#[derive(Clone, Copy)]
 pub struct RowPulled {
     pub row: NextRow,
     pub next: usize,
@@ -105,7 +105,7 @@ pub fn pull_at(feed: &[u8], place: usize) -> RowPulled
 }
 
 // A feed and a place in it, for hosts that take one row at a time. Any place may be set.
-#[derive(Drop)]
+#[derive(Clone, Copy)]
 pub struct Reader<'a> {
     pub feed: &'a [u8],
     pub place: usize,

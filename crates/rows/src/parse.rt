@@ -20,14 +20,14 @@ pub struct Values {
 }
 
 // Digits at a place of a row: their value, and the place after them.
-#[derive(Drop)]
+#[derive(Clone, Copy)]
 pub struct Digits {
     pub value: u32,
     pub next: usize,
 }
 
 // What stands at a place of a row: a number of the form with its mark, or something else.
-#[derive(Drop)]
+#[derive(Clone, Copy)]
 pub enum NumberAt {
     // The number's value, whether it has a zero in front, and the place after its mark.
     Read { value: u32, zero: bool, next: usize },

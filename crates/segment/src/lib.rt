@@ -18,7 +18,7 @@ ghost use Rattle.segment.specs.Inside.Width.{width_in};
 use runs::Paired;
 
 // Where the walk over the blocks stands: how many runs have begun, and the hop of the last block.
-#[derive(Drop)]
+#[derive(Clone, Copy)]
 struct Walk {
     begun: usize,
     hop: u32,
@@ -77,7 +77,7 @@ fn bit_of(hop: u32, last: u32) -> u16
 }
 
 // A code word, and where the walk stands after its blocks.
-#[derive(Drop)]
+#[derive(Clone, Copy)]
 struct Word {
     word: u16,
     walk: Walk,
@@ -212,7 +212,7 @@ fn width_of(keys: &[u64], q: u64) -> u64
 }
 
 // What packing gives: the width with the counts of words and of hops, 11, 14, or 13.
-#[derive(Drop)]
+#[derive(Clone, Copy)]
 pub enum Packing {
     Done {
         width: u64,

@@ -13,7 +13,7 @@ ghost use Rattle.split.specs.Inside.Labels.{AllOpen, Labelled, labels_from};
 use sweep::Standing;
 
 // What a split gives: the second half's count, 11, 17, 18 or 13.
-#[derive(Drop)]
+#[derive(Clone, Copy)]
 pub enum Parted {
     Rows(usize),
     IllFormed,

@@ -12,7 +12,7 @@ ghost use Rattle.digits.specs.Putting.{Wrote};
 use digits::{put, size};
 
 // What the list writer gives: the length of the text, 11 or 13.
-#[derive(Drop)]
+#[derive(Clone, Copy)]
 pub enum Written {
     Text(usize),
     IllFormed,

@@ -17,7 +17,7 @@ pub const MOST_MATCHES: usize = 33;
 
 // What the listing gives: the place of the row that decides and how many places were listed, or that no listed row holds the address; 11
 // or 13.
-#[derive(Drop)]
+#[derive(Clone, Copy)]
 pub enum Reason {
     Row { place: usize, listed: usize },
     Nothing,

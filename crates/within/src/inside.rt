@@ -7,7 +7,7 @@ ghost use Rattle.within.specs.Middle.{Measured};
 ghost use Rattle.within.specs.Own.{outer_size};
 
 // The runs inside a prefix: how many there are, and the hops of the first and of the last.
-#[derive(Drop)]
+#[derive(Clone, Copy)]
 pub struct Middle {
     pub runs: usize,
     pub first: u16,
