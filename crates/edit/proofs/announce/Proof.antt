@@ -14,54 +14,45 @@ use Rattle.edit.proofs.announce.Statement.{statement}
 use Rattle.edit.proofs.announce.Tie as tie
 
 -- the start, from where the prefix is looked at, and the pair that was handed in
-abbrev start : tie.After-bad-prefix → tie.Start
-start c = c.before.before.before.before.before
-
 abbrev handed : tie.Start → Pair
 handed s =
     let a = s.args in
     pair (list_lent a.count a.keys.now a.hops.now) (runs_lent a.runs a.starts.now a.rhops.now)
 
-bad-prefix-requires : tie.Need-bad-prefix-requires
+bad-prefix-requires : tie.Need-bad_prefix-requires
 bad-prefix-requires c κs = search rules
 
-returns : tie.Need-returns
+returns : tie.Need-returns-then-bad_prefix
 returns c =
-    let b = c.before in
-    let s = start b in
-    announce_bad s.args.net s.args.len (handed s) s.args.hop (sym b.bad-prefix.ensures ∙ c.if1.true)
+    announce_bad c.args.net c.args.len (handed c.before.before.before.before.before.before) c.args.hop (sym c.bad_prefix.ensures ∙ c.if-bad_prefix.true)
 
-returns-2 : tie.Need-returns-2
-returns-2 c = let s = start c.before.before in announce_none s.args.net s.args.len (handed s) s.args.hop (omega arith)
+returns-2 : tie.Need-returns-then-hop-eq0
+returns-2 c = announce_none c.args.net c.args.len (handed c.before.before.before.before.before.before.before) c.args.hop (omega arith)
 
 -- the prefix is one
-is_named : (c : tie.Else2) → bad_prefix (start c.before.before).args.net (start c.before.before).args.len ≡ false
-is_named c = sym c.before.before.bad-prefix.ensures ∙ c.before.if1.false
+is_named : (c : tie.Else-hop-eq0) → bad_prefix c.args.net c.args.len ≡ false
+is_named c = sym c.bad_prefix.ensures ∙ c.if-bad_prefix.false
 
-edit-pair-requires : tie.Need-edit-pair-requires
+edit-pair-requires : tie.Need-edit_pair-requires
 edit-pair-requires c κs =
-    let n = c.before.before.before.before in
-    let a = (start n.before.before).args in
-    (named a.net a.len (is_named n), named_short a.net a.len (is_named n))
+    let a = c.args in
+    (named a.net a.len (is_named c.before.before.before.before), named_short a.net a.len (is_named c.before.before.before.before))
 
-same_length : tie.Need-same-length
+same_length : tie.Need-shape_of-keys
 same_length c = search rules
 
-same-length-2 : tie.Need-same-length-2
+same-length-2 : tie.Need-shape_of-hops
 same-length-2 c = search rules
 
-same-length-3 : tie.Need-same-length-3
+same-length-3 : tie.Need-shape_of-starts
 same-length-3 c = search rules
 
-same-length-4 : tie.Need-same-length-4
+same-length-4 : tie.Need-shape_of-rhops
 same-length-4 c = search rules
 
-returns-3 : tie.Need-returns-3
+returns-3 : tie.Need-returns
 returns-3 c =
-    let w = c.before.before.before.before.before.before.before.before in
-    let n = w.before.before.before.before.before in
-    let s = start n.before.before in
-    w.edit-pair.ensures ∙ announce_named s.args.net s.args.len (handed s) s.args.hop (is_named n) (λ e. omega arith)
+    c.edit_pair.ensures ∙ announce_named c.args.net c.args.len (handed c.before.before.before.before.before.before.before.before.before.before.before.before.before.before.before.before.before.before.before.before) c.args.hop (is_named c.before.before.before.before.before.before.before.before.before.before.before.before.before) (λ e. omega arith)
 
 pub announce_spec : {M : Type 1} → statement M
 announce_spec =

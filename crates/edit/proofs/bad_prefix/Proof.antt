@@ -9,22 +9,22 @@ use Rattle.edit.specs.Edit.{bad_prefix}
 use Rattle.edit.proofs.bad_prefix.Statement.{statement}
 use Rattle.edit.proofs.bad_prefix.Tie as tie
 
-returns : tie.Need-returns
+returns : tie.Need-returns-then-len-gt32
 unfolding bad_prefix
-returns c = rw (lt-ltb 32 c.before.args.len (omega arith))
+returns c = rw (lt-ltb 32 c.args.len (omega arith))
 
-mul-is-prefix : tie.Need-overflow-mul-is-prefix
+mul-is-prefix : tie.Need-overflow_mul-net
 mul-is-prefix c = search rules
 
-add-is-prefix : tie.Need-overflow-add-is-prefix
+add-is-prefix : tie.Need-overflow_add-net
 add-is-prefix c = search rules
 
-is-prefix-requires : tie.Need-is-prefix-requires
+is-prefix-requires : tie.Need-is_prefix-requires
 is-prefix-requires c κs = search rules
 
-returns-2 : tie.Need-returns-2
+returns-2 : tie.Need-returns
 unfolding bad_prefix
-returns-2 c = rw (le-ltb 32 c.before.before.args.len (omega arith)) (ap not c.is_prefix_lem.ensures)
+returns-2 c = rw (le-ltb 32 c.args.len (omega arith)) (ap not c.is_prefix.ensures)
 
 pub bad_prefix_spec : {M : Type 1} → statement M
 bad_prefix_spec = tie.close (tie.spec returns mul-is-prefix add-is-prefix is-prefix-requires returns-2)

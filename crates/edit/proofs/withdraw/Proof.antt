@@ -13,51 +13,42 @@ use Rattle.edit.proofs.withdraw.Statement.{statement}
 use Rattle.edit.proofs.withdraw.Tie as tie
 
 -- the start, from where the prefix is looked at, and the pair that was handed in
-abbrev start : tie.After-bad-prefix → tie.Start
-start c = c.before.before.before.before.before
-
 abbrev handed : tie.Start → Pair
 handed s =
     let a = s.args in
     pair (list_lent a.count a.keys.now a.hops.now) (runs_lent a.runs a.starts.now a.rhops.now)
 
-bad-prefix-requires : tie.Need-bad-prefix-requires
+bad-prefix-requires : tie.Need-bad_prefix-requires
 bad-prefix-requires c κs = search rules
 
-returns : tie.Need-returns
+returns : tie.Need-returns-then-bad_prefix
 returns c =
-    let b = c.before in
-    let s = start b in
-    withdraw_bad s.args.net s.args.len (handed s) (sym b.bad-prefix.ensures ∙ c.if1.true)
+    withdraw_bad c.args.net c.args.len (handed c.before.before.before.before.before.before) (sym c.bad_prefix.ensures ∙ c.if-bad_prefix.true)
 
 -- the prefix is one
-is_named : (c : tie.Else1) → bad_prefix (start c.before).args.net (start c.before).args.len ≡ false
-is_named c = sym c.before.bad-prefix.ensures ∙ c.if1.false
+is_named : (c : tie.Else-bad_prefix) → bad_prefix c.args.net c.args.len ≡ false
+is_named c = sym c.bad_prefix.ensures ∙ c.if-bad_prefix.false
 
-edit-pair-requires : tie.Need-edit-pair-requires
+edit-pair-requires : tie.Need-edit_pair-requires
 edit-pair-requires c κs =
-    let n = c.before.before.before.before in
-    let a = (start n.before).args in
-    (named a.net a.len (is_named n), named_short a.net a.len (is_named n))
+    let a = c.args in
+    (named a.net a.len (is_named c.before.before.before.before), named_short a.net a.len (is_named c.before.before.before.before))
 
-same_length : tie.Need-same-length
+same_length : tie.Need-shape_of-keys
 same_length c = search rules
 
-same-length-2 : tie.Need-same-length-2
+same-length-2 : tie.Need-shape_of-hops
 same-length-2 c = search rules
 
-same-length-3 : tie.Need-same-length-3
+same-length-3 : tie.Need-shape_of-starts
 same-length-3 c = search rules
 
-same-length-4 : tie.Need-same-length-4
+same-length-4 : tie.Need-shape_of-rhops
 same-length-4 c = search rules
 
-returns-2 : tie.Need-returns-2
+returns-2 : tie.Need-returns
 returns-2 c =
-    let w = c.before.before.before.before.before.before.before.before in
-    let n = w.before.before.before.before.before in
-    let s = start n.before in
-    w.edit-pair.ensures ∙ withdraw_named s.args.net s.args.len (handed s) (is_named n)
+    c.edit_pair.ensures ∙ withdraw_named c.args.net c.args.len (handed c.before.before.before.before.before.before.before.before.before.before.before.before.before.before.before.before.before.before.before) (is_named c.before.before.before.before.before.before.before.before.before.before.before.before.before)
 
 pub withdraw_spec : {M : Type 1} → statement M
 withdraw_spec =

@@ -7,45 +7,42 @@ use Rattle.split.proofs.Opening.{Opening, opening_start, may_step, opened_more, 
 use Rattle.split.proofs.open_all.Statement.{statement}
 use Rattle.split.proofs.open_all.Tie as tie
 
-abbrev invariant-loop : tie.invariant-loop
+abbrev invariant-loop : tie.invariant-loop-s
 invariant-loop keys hops ends₀ open-hops₀ s₀ ends open-hops s = Opening keys hops ends open-hops s.row s.depth s.at
 
-abbrev decreases-loop : tie.decreases-loop
+abbrev decreases-loop : tie.decreases-loop-s
 decreases-loop keys hops ends₀ open-hops₀ s₀ ends open-hops s = length keys - s.row
 
-begin-requires : tie.Need-begin-requires invariant-loop decreases-loop
-begin-requires c κs = let pre = c.before.before.before.before.requires in (pre.0, λ i l. omega arith, pre.1, pre.2)
+begin-requires : tie.Need-begin-s-requires invariant-loop decreases-loop
+begin-requires c κs = let pre = c.requires in (pre.0, λ i l. omega arith, pre.1, pre.2)
 
-loop-holds : tie.Need-loop-init invariant-loop decreases-loop
-loop-holds c = opening_start c.before.before.before.before.before.requires.0 c.begin.ensures
+loop-holds : tie.Need-loop-s-init invariant-loop decreases-loop
+loop-holds c = opening_start c.requires.0 c.begin-s.ensures
 
-mul-network : tie.Need-overflow-mul-network invariant-loop decreases-loop
-mul-network c = omega (arith, c.before.before.loop.invariant.stack.within)
+mul-network : tie.Need-offset_bounds-keys-row invariant-loop decreases-loop
+mul-network c = omega (arith, c.loop-s.invariant.stack.within)
 
-shared-slice-read-network : tie.Need-shared-slice-read-network invariant-loop decreases-loop
+shared-slice-read-network : tie.Need-bounds-keys-row invariant-loop decreases-loop
 shared-slice-read-network c = omega arith
 
-network-requires : tie.Need-network-requires invariant-loop decreases-loop
+network-requires : tie.Need-network-to-requires invariant-loop decreases-loop
 network-requires c κs = tt
 
-step-requires : tie.Need-step-requires invariant-loop decreases-loop
+step-requires : tie.Need-step-s-requires invariant-loop decreases-loop
 step-requires c κs =
-    let turn = c.before.before.before.before.before.before in
-    may_step turn.loop.invariant (omega arith) c.before.before.network.ensures
+    may_step c.loop-s.invariant (omega arith) c.network-to.ensures
 
-loop-less : tie.Need-loop-smaller invariant-loop decreases-loop
+loop-less : tie.Need-loop-s-smaller invariant-loop decreases-loop
 loop-less c =
-    let turn = c.before.before.before.before.before.before.before in
-    let more = opened_more turn.loop.invariant (omega arith) c.before.before.before.network.ensures c.step.ensures in
-    omega (arith, more, c.step.ensures.1.within)
+    let more = opened_more c.loop-s.invariant (omega arith) c.network-to.ensures c.step-s.ensures in
+    omega (arith, more, c.step-s.ensures.1.within)
 
-loop-again : tie.Need-loop-preserved invariant-loop decreases-loop
+loop-again : tie.Need-loop-s-preserved invariant-loop decreases-loop
 loop-again c =
-    let turn = c.before.before.before.before.before.before.before in
-    opening_next turn.loop.invariant (omega arith) c.before.before.before.network.ensures c.step.ensures
+    opening_next c.loop-s.invariant (omega arith) c.network-to.ensures c.step-s.ensures
 
 returns : tie.Need-returns invariant-loop decreases-loop
-returns c = opening_end c.before.before.loop.invariant (omega arith)
+returns c = opening_end c.loop-s.invariant (omega arith)
 
 pub open_all_spec : {M : Type 1} → statement M
 open_all_spec =

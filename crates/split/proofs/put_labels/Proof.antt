@@ -13,35 +13,31 @@ use borrow.Author.Rules.{rules}
 use Rattle.split.proofs.put_labels.Statement.{statement}
 use Rattle.split.proofs.put_labels.Tie as tie
 
-slice-write-labels : tie.Need-slice-write-labels
+slice-write-labels : tie.Need-bounds-labels-0
 slice-write-labels c = search rules
 
-sub-write-labels : tie.Need-overflow-sub-write-labels
+sub-write-labels : tie.Need-slice_bounds-write_labels-count
 sub-write-labels c = simp length-set (omega arith)
 
-part-write-labels-start : tie.Need-slice-bounds-write-labels-start
+part-write-labels-start : tie.Need-slice_bounds-write_labels-start
 part-write-labels-start c = sub-write-labels c
 
-part-write-labels-end : tie.Need-slice-bounds-write-labels-end
+part-write-labels-end : tie.Need-slice_bounds-write_labels-end
 part-write-labels-end c = search rules
 
-write-labels-requires : tie.Need-write-labels-requires
+write-labels-requires : tie.Need-write_labels-requires
 write-labels-requires c κs =
-    let pre = c.before.before.before.before.requires in
+    let pre = c.requires in
     (pre.0, record { some = pre.1; within = pre.2; room = simp (length-take, length-drop, length-set) (omega arith) })
 
-abbrev start : tie.After-slice-known2 → tie.Start
-start c = c.before.before.before.before.before.before.before
-
 whole : tie.Need-returns
-whole c = first_then (start c).args.labels.now 0 _ (omega arith) refl c.before.before.write-labels.ensures
+whole c = first_then c.args.labels.now 0 _ (omega arith) refl c.write_labels.ensures
 
-same_length : tie.Need-same-length
+same_length : tie.Need-shape_of-labels
 same_length c =
-    let st = start c in
     ap length (whole c)
-    ∙ length_written (0 ∷ labels_from st.args.k (all_rows st.args.keys.now st.args.hops.now)) st.args.labels.now
-    (omega (arith, labels_long st.pre.0 st.pre.2))
+    ∙ length_written (0 ∷ labels_from c.args.k (all_rows c.args.keys.now c.args.hops.now)) c.args.labels.now
+    (omega (arith, labels_long c.requires.0 c.requires.2))
 
 returns : tie.Need-returns
 returns c = whole c

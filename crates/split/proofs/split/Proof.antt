@@ -20,99 +20,84 @@ use borrow.Author.Rules.{rules}
 use Rattle.split.proofs.split.Statement.{statement}
 use Rattle.split.proofs.split.Tie as tie
 
-list-ok-requires : tie.Need-list-ok-requires
+list-ok-requires : tie.Need-list_ok-requires
 list-ok-requires c κs = search rules
 
 -- what the branches know: past the list test, past the size, and past the first key
-ok : (c : tie.Else1) → let a = c.before.before.before.before.before.before.args in
+ok : (c : tie.Else-not-list_ok) → let a = c.args in
     well_formed a.count a.keys.now a.hops.now ≡ true
-ok c = list_test _ _ _ c.before.list-ok.ensures ∙ not-false _ c.if1.false
+ok c = list_test _ _ _ c.list_ok.ensures ∙ c.if-not-list_ok.false
 
-abbrev past-list : tie.Else3 → tie.Else1
-past-list c = c.before.before
-
-abbrev past-size : tie.Else4 → tie.Else3
-past-size c = c.before.before
-
-has_default : (c : tie.Else4) → let a = (past-list (past-size c)).before.before.before.before.before.before.args in
+has_default : (c : tie.Else-keys-ne0) → let a = c.args in
     listed default_key (rows_of a.count a.keys.now a.hops.now) ≡ true
-has_default c = default_first _ _ _ (ok (past-list (past-size c))) (omega arith) ∙ eq-eqb _ 0 c.if4.false
+has_default c = default_first _ _ _ (ok c.before.before.before.before) (omega arith) ∙ eq-eqb _ 0 c.if-keys-ne0.false
 
-returns : tie.Need-returns
-returns c = split_ill _ _ _ (list_test _ _ _ c.before.list-ok.ensures ∙ not-true _ c.if1.true)
+returns : tie.Need-returns-then-not-list_ok
+returns c = split_ill _ _ _ (list_test _ _ _ c.list_ok.ensures ∙ c.if-not-list_ok.true)
 
-returns-2 : tie.Need-returns-2
-returns-2 c = split_no_size _ _ _ (ok c.before) c.if2.true
+returns-2 : tie.Need-returns-then-k-eq0
+returns-2 c = split_no_size _ _ _ (ok c.before) c.if-k-eq0.true
 
-returns-3 : tie.Need-returns-3
+returns-3 : tie.Need-returns-then-count-k
 returns-3 c = split_big_size _ _ _ (ok c.before.before) (omega arith)
 
-shared-slice-read-if4 : tie.Need-shared-slice-read-if4
-shared-slice-read-if4 c = omega (arith, in_keys _ _ _ (well_half _ _ _ (ok (past-list c.before))))
+shared-slice-read-if4 : tie.Need-bounds-keys-0
+shared-slice-read-if4 c = omega (arith, in_keys _ _ _ (well_half _ _ _ (ok c.before.before.before)))
 
-returns-4 : tie.Need-returns-4
+returns-4 : tie.Need-returns-then-keys-ne0
 returns-4 c =
-    let size = c.before.before in
-    split_no_default _ _ _ (ok (past-list size)) (omega arith) (omega arith)
-    (default_first _ _ _ (ok (past-list size)) (omega arith) ∙ ne_eqb _ 0 c.if4.true)
+    split_no_default _ _ _ (ok c.before.before.before.before) (omega arith) (omega arith)
+    (default_first _ _ _ (ok c.before.before.before.before) (omega arith) ∙ ne_eqb _ 0 c.if-keys-ne0.true)
 
-add-rows : tie.Need-overflow-add-rows
+add-rows : tie.Need-overflow_add-rows
 add-rows c = search rules
 
-returns-5 : tie.Need-returns-5
+returns-5 : tie.Need-returns-then-out-rows
 returns-5 c =
-    let d = c.before in
-    split_short_keys _ _ _ (ok (past-list (past-size d))) (omega arith) (omega arith) (has_default d) (omega arith)
+    split_short_keys _ _ _ (ok c.before.before.before.before.before) (omega arith) (omega arith) (has_default c.before) (omega arith)
 
-returns-6 : tie.Need-returns-6
+returns-6 : tie.Need-returns-then-labels-rows
 returns-6 c =
-    let d = c.before.before in
-    split_short_labels _ _ _ (ok (past-list (past-size d))) (omega arith) (omega arith) (has_default d) (omega arith)
+    split_short_labels _ _ _ (ok c.before.before.before.before.before.before) (omega arith) (omega arith) (has_default c.before.before) (omega arith)
 
 -- past the room: the list is well-formed, and so in order
-abbrev past_first : tie.Else6 → tie.Else4
-past_first c = c.before.before
-
-fine : (c : tie.Else6) → let a = (past-list (past-size (past_first c))).before.before.before.before.before.before.args in
+fine : (c : tie.Else-labels-rows) → let a = c.args in
     half_formed a.count a.keys.now a.hops.now ≡ true
-fine c = well_half _ _ _ (ok (past-list (past-size (past_first c))))
+fine c = well_half _ _ _ (ok c.before.before.before.before.before.before)
 
-slice-aggregate-put-keys : tie.Need-slice-aggregate-put-keys
-slice-aggregate-put-keys c = sym (length-take-le _ _ (in_keys _ _ _ (fine c.before)))
+slice-aggregate-put-keys : tie.Need-slice_bounds-put_keys-end
+slice-aggregate-put-keys c = sym (length-take-le _ _ (in_keys _ _ _ (fine c)))
 
-put-keys-requires : tie.Need-put-keys-requires
+put-keys-requires : tie.Need-put_keys-requires
 put-keys-requires c κs =
-    let half = fine c.before.before in
+    let half = fine c.before in
     (simp length-take (omega (arith, in_keys _ _ _ half)), simp length-take (omega (arith, in_keys _ _ _ half)))
 
-slice-aggregate-put-labels : tie.Need-slice-aggregate-put-labels
-slice-aggregate-put-labels c = sym (length-take-le _ _ (in_keys _ _ _ (fine c.before.before.before.before.before.before)))
+slice-aggregate-put-labels : tie.Need-slice_bounds-put_labels-end
+slice-aggregate-put-labels c = sym (length-take-le _ _ (in_keys _ _ _ (fine c.before.before.before.before)))
 
-slice-aggregate-put-labels-2 : tie.Need-slice-aggregate-put-labels-2
-slice-aggregate-put-labels-2 c = sym (length-take-le _ _ (in_hops _ _ _ (fine c.before.before.before.before.before.before.before)))
+slice-aggregate-put-labels-2 : tie.Need-slice_bounds-put_labels-end-2
+slice-aggregate-put-labels-2 c = sym (length-take-le _ _ (in_hops _ _ _ (fine c.before.before.before.before)))
 
-put-labels-requires : tie.Need-put-labels-requires
+put-labels-requires : tie.Need-put_labels-requires
 put-labels-requires c κs =
-    let half = fine c.before.before.before.before.before.before.before.before in (
+    let half = fine c.before.before.before.before.before in (
       slices_sorted _ _ _ half,
       omega arith,
       simp length-take (omega (arith, in_keys _ _ _ half)),
       simp length-take (omega (arith, in_keys _ _ _ half)),
     )
 
-same_length : tie.Need-same-length
+same_length : tie.Need-shape_of-out
 same_length c = search rules
 
-same-length-2 : tie.Need-same-length-2
+same-length-2 : tie.Need-shape_of-labels
 same-length-2 c = search rules
 
-returns-7 : tie.Need-returns-7
+returns-7 : tie.Need-returns
 returns-7 c =
-    let keyed = c.before.before.before.before.before.before.before.before in
-    let room = keyed.before.before.before in
-    let d = past_first room in
-    split_done _ _ _ (ok (past-list (past-size d))) (omega arith) (omega arith) (has_default d) (omega arith) (omega arith)
-    keyed.put-keys.ensures (rw (slices_rows _ _ _ (fine room)) at c.before.before.put-labels.ensures)
+    split_done _ _ _ (ok c.before.before.before.before.before.before.before.before.before.before.before.before.before.before) (omega arith) (omega arith) (has_default c.before.before.before.before.before.before.before.before.before.before) (omega arith) (omega arith)
+    c.put_keys.ensures (rw (slices_rows _ _ _ (fine c.before.before.before.before.before.before.before.before)) at c.put_labels.ensures)
 
 pub split_spec : {M : Type 1} → statement M
 split_spec =

@@ -12,104 +12,90 @@ use Rattle.split.proofs.Filling.{filling_long}
 use Rattle.split.proofs.write_labels.Statement.{statement}
 use Rattle.split.proofs.write_labels.Tie as tie
 
-abbrev invariant-loop : tie.invariant-loop
+abbrev invariant-loop : tie.invariant-loop-i
 invariant-loop keys hops k labels₀ ends₀ open-hops₀ first-keys first-hops s₀ at₀ i₀ labels ends open-hops s at i =
     Labelling keys hops k labels₀ labels ends open-hops s.row s.depth s.at at i
 
-abbrev decreases-loop : tie.decreases-loop
+abbrev decreases-loop : tie.decreases-loop-i
 decreases-loop keys hops k labels₀ ends₀ open-hops₀ first-keys first-hops s₀ at₀ i₀ labels ends open-hops s at i = length keys - i
 
 -- the start and the loop's head, from where the sweep has moved on
-abbrev start : tie.At-loop invariant-loop decreases-loop → tie.Start invariant-loop decreases-loop
-start c = c.before.before.before.before.before.before.before.before.before
+within : (c : tie.At-loop-i invariant-loop decreases-loop) → c.args.k ≤ length c.args.keys.now
+within c = c.requires.1.within
 
-abbrev turn : tie.After-step invariant-loop decreases-loop → tie.At-loop invariant-loop decreases-loop
-turn c = c.before.before.before.before.before.before
+slice-aggregate-first-keys : tie.Need-slice_bounds-first_keys-end invariant-loop decreases-loop
+slice-aggregate-first-keys c = sym (length-take-le _ _ c.requires.1.within)
 
-within : (c : tie.At-loop invariant-loop decreases-loop) → (start c).args.k ≤ length (start c).args.keys.now
-within c = (start c).requires.1.within
-
-slice-aggregate-first-keys : tie.Need-slice-aggregate-first-keys invariant-loop decreases-loop
-slice-aggregate-first-keys c = sym (length-take-le _ _ c.before.before.before.before.requires.1.within)
-
-slice-aggregate-first-hops : tie.Need-slice-aggregate-first-hops invariant-loop decreases-loop
+slice-aggregate-first-hops : tie.Need-slice_bounds-first_hops-end invariant-loop decreases-loop
 slice-aggregate-first-hops c =
-    let pre = c.before.before.before.before.before.requires in
+    let pre = c.requires in
     sym (length-take-le _ _ (omega (arith, pre.0.paired, pre.1.within)))
 
-open-all-requires : tie.Need-open-all-requires invariant-loop decreases-loop
+open-all-requires : tie.Need-open_all-s-requires invariant-loop decreases-loop
 open-all-requires c κs =
-    let pre = c.before.before.before.before.before.before.before.requires in
+    let pre = c.requires in
     (first_sorted pre.0 pre.1.within, refl, refl)
 
-loop-holds : tie.Need-loop-init invariant-loop decreases-loop
+loop-holds : tie.Need-loop-i-init invariant-loop decreases-loop
 loop-holds c =
-    let pre = c.before.before.before.before.before.before.before.before.requires in
-    labelling_start pre.0 pre.1 c.open-all.ensures
+    let pre = c.requires in
+    labelling_start pre.0 pre.1 c.open_all-s.ensures
 
-mul-network : tie.Need-overflow-mul-network invariant-loop decreases-loop
+mul-network : tie.Need-offset_bounds-keys-i invariant-loop decreases-loop
 mul-network c = omega arith
 
-shared-slice-read-network : tie.Need-shared-slice-read-network invariant-loop decreases-loop
+shared-slice-read-network : tie.Need-bounds-keys-i invariant-loop decreases-loop
 shared-slice-read-network c = omega arith
 
-network-requires : tie.Need-network-requires invariant-loop decreases-loop
+network-requires : tie.Need-network-to-requires invariant-loop decreases-loop
 network-requires c κs = tt
 
-step-requires : tie.Need-step-requires invariant-loop decreases-loop
+step-requires : tie.Need-step-s-requires invariant-loop decreases-loop
 step-requires c κs =
-    let t = c.before.before.before.before.before in
-    may_go (start t).requires.0 (within t) t.loop.invariant (omega arith) c.before.before.network.ensures
+    may_go c.requires.0 (within c.before.before.before.before.before) c.loop-i.invariant (omega arith) c.network-to.ensures
 
-mul-label : tie.Need-overflow-mul-label invariant-loop decreases-loop
+mul-label : tie.Need-offset_bounds-hops-i invariant-loop decreases-loop
 mul-label c = omega arith
 
-shared-slice-read-label : tie.Need-shared-slice-read-label invariant-loop decreases-loop
-shared-slice-read-label c = omega (arith, (start c.before.before.before.before.before.before.before).pre.0.paired)
+shared-slice-read-label : tie.Need-bounds-hops-i invariant-loop decreases-loop
+shared-slice-read-label c = omega (arith, c.requires.0.paired)
 
-top-hop-requires : tie.Need-top-hop-requires invariant-loop decreases-loop
+top-hop-requires : tie.Need-top_hop-requires invariant-loop decreases-loop
 top-hop-requires c κs =
-    let st = c.before.before in
-    let t = turn st in
-    may_look (start t).pre.0 (within t) t.loop.inv (omega arith) st.before.before.before.network.ensures st.step.ensures
+    may_look c.requires.0 (within c.before.before.before.before.before.before.before.before) c.loop-i.invariant (omega arith) c.network-to.ensures c.step-s.ensures
 
 label-requires : tie.Need-label-requires invariant-loop decreases-loop
 label-requires c κs = tt
 
-mul-labels : tie.Need-overflow-mul-labels invariant-loop decreases-loop
+mul-labels : tie.Need-offset_bounds-labels-at invariant-loop decreases-loop
 mul-labels c =
-    let t = turn c.before.before.before.before in
-    omega (arith, few_slots (start t).pre.0 (within t) t.loop.inv (omega arith))
+    omega (arith, few_slots c.requires.0 (within c.before.before.before.before.before.before.before.before.before.before) c.loop-i.invariant (omega arith))
 
-slice-write-labels : tie.Need-slice-write-labels invariant-loop decreases-loop
-slice-write-labels c = let t = turn c.before.before.before.before in free_slot (start t).pre.0 (within t) t.loop.inv (omega arith)
+slice-write-labels : tie.Need-bounds-labels-at invariant-loop decreases-loop
+slice-write-labels c = free_slot c.requires.0 (within c.before.before.before.before.before.before.before.before.before.before) c.loop-i.invariant (omega arith)
 
-add_at : tie.Need-overflow-add-at invariant-loop decreases-loop
+add_at : tie.Need-overflow_add-at invariant-loop decreases-loop
 add_at c =
-    let t = turn c.before.before.before.before in
-    omega (arith, few_slots (start t).pre.0 (within t) t.loop.inv (omega arith))
+    omega (arith, few_slots c.requires.0 (within c.before.before.before.before.before.before.before.before.before.before) c.loop-i.invariant (omega arith))
 
-add-i : tie.Need-overflow-add-i invariant-loop decreases-loop
+add-i : tie.Need-overflow_add-i invariant-loop decreases-loop
 add-i c = omega arith
 
-loop-less : tie.Need-loop-smaller invariant-loop decreases-loop
+loop-less : tie.Need-loop-i-smaller invariant-loop decreases-loop
 loop-less c = omega arith
 
-loop-again : tie.Need-loop-preserved invariant-loop decreases-loop
+loop-again : tie.Need-loop-i-preserved invariant-loop decreases-loop
 loop-again c =
-    let looked = c.before in
-    let st = looked.before.before.before in
-    let t = turn st in
-    let on = st.before.before.before.before.before.loop-test.true in
+    let on = c.loop-i-test.true in
     rw c.label.ensures
-    (labelling_next (start t).pre.0 (within t) t.loop.inv on st.before.before.before.network.ensures
-    st.step.ensures looked.top-hop.ensures)
+    (labelling_next c.requires.0 (within c.before.before.before.before.before.before.before.before.before.before) c.loop-i.invariant on c.network-to.ensures
+    c.step-s.ensures c.top_hop.ensures)
 
-same_length : tie.Need-same-length invariant-loop decreases-loop
-same_length c = filling_long c.before.loop.invariant.filling
+same_length : tie.Need-shape_of-labels invariant-loop decreases-loop
+same_length c = filling_long c.loop-i.invariant.filling
 
 returns : tie.Need-returns invariant-loop decreases-loop
-returns c = let t = c.before in labelling_end (start t).requires.0 (within t) t.loop.invariant (omega arith)
+returns c = labelling_end c.requires.0 (within c.before) c.loop-i.invariant (omega arith)
 
 pub write_labels_spec : {M : Type 1} → statement M
 write_labels_spec =

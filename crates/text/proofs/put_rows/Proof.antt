@@ -9,50 +9,48 @@ use Rattle.text.proofs.Along.{Putting, in_top, putting_start, row_fits, putting_
 use Rattle.text.proofs.put_rows.Statement.{statement}
 use Rattle.text.proofs.put_rows.Tie as tie
 
-abbrev invariant-loop : tie.invariant-loop
+abbrev invariant-loop : tie.invariant-loop-i
 invariant-loop count keys hops out₀ at₀ i₀ out at i = Putting count keys hops out₀ out at i
 
-abbrev decreases-loop : tie.decreases-loop
+abbrev decreases-loop : tie.decreases-loop-i
 decreases-loop count keys hops out₀ at₀ i₀ out at i = count - i
 
-loop-holds : tie.Need-loop-init invariant-loop decreases-loop
-loop-holds c = putting_start _ _ _ _ c.before.before.before.requires.1
+loop-holds : tie.Need-loop-i-init invariant-loop decreases-loop
+loop-holds c = putting_start _ _ _ _ c.requires.1
 
-mul-row : tie.Need-overflow-mul-row invariant-loop decreases-loop
-mul-row c = omega (arith, in_top _ _ _ c.before.before.before.before.before.before.requires.0)
+mul-row : tie.Need-offset_bounds-keys-i invariant-loop decreases-loop
+mul-row c = omega (arith, in_top _ _ _ c.requires.0)
 
-shared-slice-read-row : tie.Need-shared-slice-read-row invariant-loop decreases-loop
+shared-slice-read-row : tie.Need-bounds-keys-i invariant-loop decreases-loop
 shared-slice-read-row c =
-    omega (arith, in_keys _ _ _ (well_half _ _ _ c.before.before.before.before.before.before.before.requires.0))
+    omega (arith, in_keys _ _ _ (well_half _ _ _ c.requires.0))
 
-mul-row-2 : tie.Need-overflow-mul-row-2 invariant-loop decreases-loop
-mul-row-2 c = omega (arith, in_top _ _ _ c.before.before.before.before.before.before.before.requires.0)
+mul-row-2 : tie.Need-offset_bounds-hops-i invariant-loop decreases-loop
+mul-row-2 c = omega (arith, in_top _ _ _ c.requires.0)
 
-shared-slice-read-row-2 : tie.Need-shared-slice-read-row-2 invariant-loop decreases-loop
+shared-slice-read-row-2 : tie.Need-bounds-hops-i invariant-loop decreases-loop
 shared-slice-read-row-2 c =
-    omega (arith, in_hops _ _ _ (well_half _ _ _ c.before.before.before.before.before.before.before.before.requires.0))
+    omega (arith, in_hops _ _ _ (well_half _ _ _ c.requires.0))
 
-row-requires : tie.Need-row-requires invariant-loop decreases-loop
+row-requires : tie.Need-row-at-requires invariant-loop decreases-loop
 row-requires c κs =
-    let turn = c.before.before.before.before in
-    row_fits turn.before.before.before.before.requires.0 turn.loop.invariant c.before.before.before.loop-test.true
+    row_fits c.requires.0 c.loop-i.invariant c.loop-i-test.true
 
-add-i : tie.Need-overflow-add-i invariant-loop decreases-loop
+add-i : tie.Need-overflow_add-i invariant-loop decreases-loop
 add-i c = omega arith
 
-loop-less : tie.Need-loop-smaller invariant-loop decreases-loop
+loop-less : tie.Need-loop-i-smaller invariant-loop decreases-loop
 loop-less c = omega arith
 
-loop-again : tie.Need-loop-preserved invariant-loop decreases-loop
+loop-again : tie.Need-loop-i-preserved invariant-loop decreases-loop
 loop-again c =
-    let turn = c.before.before.before.before.before.before.before in
-    putting_next turn.before.before.before.before.requires.0 turn.loop.invariant (omega arith) c.before.before.row.ensures
+    putting_next c.requires.0 c.loop-i.invariant (omega arith) c.row-at.ensures
 
-same_length : tie.Need-same-length invariant-loop decreases-loop
-same_length c = c.before.loop.invariant.as_long
+same_length : tie.Need-shape_of-out invariant-loop decreases-loop
+same_length c = c.loop-i.invariant.as_long
 
 returns : tie.Need-returns invariant-loop decreases-loop
-returns c = putting_end c.before.before.before.before.before.requires.0 c.before.loop.invariant (omega arith)
+returns c = putting_end c.requires.0 c.loop-i.invariant (omega arith)
 
 pub put_rows_spec : {M : Type 1} → statement M
 put_rows_spec =

@@ -13,18 +13,17 @@ use Rattle.text.proofs.Along.{network_small, text_at_most}
 use Rattle.text.proofs.text_fits.Statement.{statement}
 use Rattle.text.proofs.text_fits.Tie as tie
 
-returns : tie.Need-returns
+returns : tie.Need-returns-then-count-bytes
 returns c =
-    let st = c.before.before.before in
-    let most = text_at_most st.args.count st.args.keys.now st.args.hops.now (network_small _ _ _ st.requires)
-    (λ i. omega (arith, c.before.shared-slice-known2.given i)) in
-    sym (le-leb (length (text_of (rows_of st.args.count st.args.keys.now st.args.hops.now))) st.args.bytes (omega arith))
+    let most = text_at_most c.args.count c.args.keys.now c.args.hops.now (network_small _ _ _ c.requires)
+    (λ i. omega (arith, c.shared_slice_known-2-1.given i)) in
+    sym (le-leb (length (text_of (rows_of c.args.count c.args.keys.now c.args.hops.now))) c.args.bytes (omega arith))
 
-text-length-requires : tie.Need-text-length-requires
+text-length-requires : tie.Need-text_length-requires
 text-length-requires c κs = search rules
 
-returns-2 : tie.Need-returns-2
-returns-2 c = ap (λ n. leb n c.before.before.before.before.args.bytes) c.text-length.ensures
+returns-2 : tie.Need-returns
+returns-2 c = ap (λ n. leb n c.args.bytes) c.text_length.ensures
 
 pub text_fits_spec : {M : Type 1} → statement M
 text_fits_spec = tie.close (tie.spec returns text-length-requires returns-2)

@@ -15,38 +15,36 @@ use borrow.Author.Rules.{rules}
 use Rattle.text.proofs.write.Statement.{statement}
 use Rattle.text.proofs.write.Tie as tie
 
-list-ok-requires : tie.Need-list-ok-requires
+list-ok-requires : tie.Need-list_ok-requires
 list-ok-requires c κs = search rules
 
 -- what the branch past the list test knows, and the one past the measuring
-ok : (c : tie.Else1) → let a = c.before.before.before.before.before.args in
+ok : (c : tie.Else-not-list_ok) → let a = c.args in
     well_formed a.count a.keys.now a.hops.now ≡ true
-ok c = list_test _ _ _ c.before.list-ok.ensures ∙ not-false _ c.if1.false
+ok c = list_test _ _ _ c.list_ok.ensures ∙ c.if-not-list_ok.false
 
-fits : (c : tie.Else2) → let a = c.before.before.before.before.before.before.before.args in
+fits : (c : tie.Else-not-text_fits) → let a = c.args in
     length (text_of (rows_of a.count a.keys.now a.hops.now)) ≤ length a.out.now
-fits c = leb-true _ _ (sym c.before.text-fits.ensures ∙ not-false _ c.if2.false)
+fits c = leb-true _ _ (sym c.text_fits.ensures ∙ c.if-not-text_fits.false)
 
-returns : tie.Need-returns
-returns c = write_ill _ _ (list_test _ _ _ c.before.list-ok.ensures ∙ not-true _ c.if1.true)
+returns : tie.Need-returns-then-not-list_ok
+returns c = write_ill _ _ (list_test _ _ _ c.list_ok.ensures ∙ c.if-not-list_ok.true)
 
-text-fits-requires : tie.Need-text-fits-requires
+text-fits-requires : tie.Need-text_fits-requires
 text-fits-requires c κs = ok c
 
-returns-2 : tie.Need-returns-2
-returns-2 c = write_short _ _ (ok c.before.before) (leb-false _ _ (sym c.before.text-fits.ensures ∙ not-true _ c.if2.true))
+returns-2 : tie.Need-returns-then-not-text_fits
+returns-2 c = write_short _ _ (ok c.before.before) (leb-false _ _ (sym c.text_fits.ensures ∙ c.if-not-text_fits.true))
 
-put-rows-requires : tie.Need-put-rows-requires
+put-rows-requires : tie.Need-put_rows-requires
 put-rows-requires c κs = (ok c.before.before.before, fits c.before)
 
-same_length : tie.Need-same-length
+same_length : tie.Need-shape_of-out
 same_length c = search rules
 
-returns-3 : tie.Need-returns-3
+returns-3 : tie.Need-returns
 returns-3 c =
-    let called = c.before.before in
-    let branch = called.before.before in
-    write_done _ _ (ok branch.before.before) (fits branch) called.put-rows.ensures
+    write_done _ _ (ok c.before.before.before.before.before.before) (fits c.before.before.before.before) c.put_rows.ensures
 
 pub write_spec : {M : Type 1} → statement M
 write_spec =

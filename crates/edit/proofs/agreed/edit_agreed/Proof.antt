@@ -39,142 +39,103 @@ counts s =
     let room = agreed_room (handed s) s.requires.2 in
     (in_keys _ _ _ half, in_hops _ _ _ half, in_starts _ _ _ room, in_rhops _ _ _ room)
 
-abbrev at_start : tie.After-slice-known4 → tie.Start
-at_start c = c.before.before.before.before
+mul-key : tie.Need-overflow_mul-key
+mul-key c = omega (arith, small c.before.before.before.before)
 
--- the start, from where the key's place is known, and from where there is something to do
-abbrev start : tie.After-find → tie.Start
-start f = at_start f.before.before
+add-key : tie.Need-overflow_add-key
+add-key c = omega (arith, small c.before.before.before.before, c.requires.1)
 
-abbrev at-find : tie.Else1 → tie.After-find
-at-find c = c.before.before
+slice-reshare-prefix-find : tie.Need-slice_bounds-find-end
+slice-reshare-prefix-find c = (counts c.before.before.before.before).0
 
-mul-key : tie.Need-overflow-mul-key
-mul-key c = omega (arith, small (at_start c))
+slice-aggregate-find : tie.Need-slice_bounds-find-end-2
+slice-aggregate-find c = sym (length-take-le _ _ (counts c.before.before.before.before).0)
 
-add-key : tie.Need-overflow-add-key
-add-key c = omega (arith, small (at_start c), (at_start c).requires.1)
+find-requires : tie.Need-find-found-requires
+find-requires c κs = agreed_ascends (handed c.before.before.before.before) c.requires.2
 
-slice-reshare-prefix-find : tie.Need-slice-reshare-prefix-find
-slice-reshare-prefix-find c = (counts (at_start c)).0
-
-slice-aggregate-find : tie.Need-slice-aggregate-find
-slice-aggregate-find c = sym (length-take-le _ _ (counts (at_start c.before)).0)
-
-find-requires : tie.Need-find-requires
-find-requires c κs = let s = at_start c.before in agreed_ascends (handed s) s.pre.2
-
-nothing-to-withdraw-requires : tie.Need-nothing-to-withdraw-requires
+nothing-to-withdraw-requires : tie.Need-nothing_to_withdraw-requires
 nothing-to-withdraw-requires c κs = search rules
 
-same_length : tie.Need-same-length
+same_length : tie.Need-shape_of-keys-then-nothing_to_withdraw
 same_length c = search rules
 
-returns : tie.Need-returns
+returns : tie.Need-returns-then-nothing_to_withdraw
 returns c =
-    let n = c.before in
-    let s = start n.before in
-    unlisted (handed s) s.pre.2 (key s) s.args.hop n.before.find.ensures n.nothing-to-withdraw.ensures c.if1.true
+    unlisted (handed c.before.before.before.before.before.before.before) c.requires.2 (key c.before.before.before.before.before.before.before) c.args.hop c.find-found.ensures c.nothing_to_withdraw.ensures c.if-nothing_to_withdraw.true
 
-slice-reshare-prefix-plan-edit : tie.Need-slice-reshare-prefix-plan-edit
-slice-reshare-prefix-plan-edit c = (counts (start (at-find c))).0
+slice-reshare-prefix-plan-edit : tie.Need-slice_bounds-plan_edit-end
+slice-reshare-prefix-plan-edit c = (counts c.before.before.before.before.before.before.before).0
 
-slice-aggregate-plan-edit : tie.Need-slice-aggregate-plan-edit
-slice-aggregate-plan-edit c = sym (length-take-le _ _ (counts (start (at-find c.before))).0)
+slice-aggregate-plan-edit : tie.Need-slice_bounds-plan_edit-end-2
+slice-aggregate-plan-edit c = sym (length-take-le _ _ (counts c.before.before.before.before.before.before.before).0)
 
-slice-reshare-prefix-plan-edit-2 : tie.Need-slice-reshare-prefix-plan-edit-2
-slice-reshare-prefix-plan-edit-2 c = (counts (start (at-find c.before))).1
+slice-reshare-prefix-plan-edit-2 : tie.Need-slice_bounds-plan_edit-end-3
+slice-reshare-prefix-plan-edit-2 c = (counts c.before.before.before.before.before.before.before).1
 
-slice-aggregate-plan-edit-2 : tie.Need-slice-aggregate-plan-edit-2
-slice-aggregate-plan-edit-2 c = sym (length-take-le _ _ (counts (start (at-find c.before.before))).1)
+slice-aggregate-plan-edit-2 : tie.Need-slice_bounds-plan_edit-end-4
+slice-aggregate-plan-edit-2 c = sym (length-take-le _ _ (counts c.before.before.before.before.before.before.before).1)
 
-slice-reshare-prefix-plan-edit-3 : tie.Need-slice-reshare-prefix-plan-edit-3
-slice-reshare-prefix-plan-edit-3 c = (counts (start (at-find c.before.before))).2
+slice-reshare-prefix-plan-edit-3 : tie.Need-slice_bounds-plan_edit-end-5
+slice-reshare-prefix-plan-edit-3 c = (counts c.before.before.before.before.before.before.before).2
 
-slice-aggregate-plan-edit-3 : tie.Need-slice-aggregate-plan-edit-3
-slice-aggregate-plan-edit-3 c = sym (length-take-le _ _ (counts (start (at-find c.before.before.before))).2)
+slice-aggregate-plan-edit-3 : tie.Need-slice_bounds-plan_edit-end-6
+slice-aggregate-plan-edit-3 c = sym (length-take-le _ _ (counts c.before.before.before.before.before.before.before).2)
 
-slice-reshare-prefix-plan-edit-4 : tie.Need-slice-reshare-prefix-plan-edit-4
-slice-reshare-prefix-plan-edit-4 c = (counts (start (at-find c.before.before.before))).3
+slice-reshare-prefix-plan-edit-4 : tie.Need-slice_bounds-plan_edit-end-7
+slice-reshare-prefix-plan-edit-4 c = (counts c.before.before.before.before.before.before.before).3
 
-slice-aggregate-plan-edit-4 : tie.Need-slice-aggregate-plan-edit-4
-slice-aggregate-plan-edit-4 c = sym (length-take-le _ _ (counts (start (at-find c.before.before.before.before))).3)
+slice-aggregate-plan-edit-4 : tie.Need-slice_bounds-plan_edit-end-8
+slice-aggregate-plan-edit-4 c = sym (length-take-le _ _ (counts c.before.before.before.before.before.before.before).3)
 
-plan-edit-requires : tie.Need-plan-edit-requires
+plan-edit-requires : tie.Need-plan_edit-p-requires
 plan-edit-requires c κs =
-    let t = c.before.before.before.before in
-    let f = at-find t in
-    let s = start f in
     let asks =
-    plan_asks (handed s) s.pre.2 (key s) s.args.hop f.find.ensures t.before.nothing-to-withdraw.ensures t.if1.false in
-    (asks.0, asks.1, asks.2, s.pre.0, s.pre.1, f.find.ensures, asks.3)
+    plan_asks (handed c.before.before.before.before.before.before.before) c.requires.2 (key c.before.before.before.before.before.before.before) c.args.hop c.find-found.ensures c.nothing_to_withdraw.ensures c.if-nothing_to_withdraw.false in
+    (asks.0, asks.1, asks.2, c.requires.0, c.requires.1, c.find-found.ensures, asks.3)
 
 exceeds-requires : tie.Need-exceeds-requires
 exceeds-requires c κs = search rules
 
-same-length-2 : tie.Need-same-length-2
+same-length-2 : tie.Need-shape_of-keys-then-exceeds
 same-length-2 c = search rules
 
-same-length-3 : tie.Need-same-length-3
+same-length-3 : tie.Need-shape_of-hops-then-exceeds
 same-length-3 c = search rules
 
-same-length-4 : tie.Need-same-length-4
+same-length-4 : tie.Need-shape_of-starts-then-exceeds
 same-length-4 c = search rules
 
-same-length-5 : tie.Need-same-length-5
+same-length-5 : tie.Need-shape_of-rhops-then-exceeds
 same-length-5 c = search rules
 
 -- where the edit is planned, from where its room is known
-abbrev at-something : tie.After-plan-edit → tie.Else1
-at-something l = l.before.before.before.before.before
-
-abbrev at-plan : tie.Then2 → tie.After-plan-edit
-at-plan c = c.before.before.before.before.before.before
-
-abbrev at_room : tie.Else2 → tie.After-plan-edit
-at_room c = c.before.before.before.before.before.before
-
-returns-2 : tie.Need-returns-2
+returns-2 : tie.Need-returns-then-exceeds
 returns-2 c =
-    let l = at-plan c in
-    let t = at-something l in
-    let f = at-find t in
-    let s = start f in
-    full (handed s) s.pre.2 (key s) s.args.hop f.find.ensures t.before.nothing-to-withdraw.ensures t.if1.left
-    l.plan-edit.ensures c.before.exceeds.ensures c.if2.true
+    full (handed c.before.before.before.before.before.before.before.before.before.before) c.requires.2 (key c.before.before.before.before.before.before.before.before.before.before) c.args.hop c.find-found.ensures c.nothing_to_withdraw.ensures c.if-nothing_to_withdraw.false
+    c.plan_edit-p.ensures c.exceeds.ensures c.if-exceeds.true
 
-write-edit-requires : tie.Need-write-edit-requires
+write-edit-requires : tie.Need-write_edit-requires
 write-edit-requires c κs =
-    let r = c.before.before.before.before in
-    let l = at_room r in
-    let t = at-something l in
-    let f = at-find t in
-    let s = start f in
-    may_write (handed s) s.pre.2 (key s) s.args.hop f.find.ensures t.before.nothing-to-withdraw.ensures t.if1.left
-    l.plan-edit.ensures r.before.exceeds.ensures s.pre.0 r.if2.false
+    may_write (handed c.before.before.before.before.before.before.before.before.before.before.before.before.before.before) c.requires.2 (key c.before.before.before.before.before.before.before.before.before.before.before.before.before.before) c.args.hop c.find-found.ensures c.nothing_to_withdraw.ensures c.if-nothing_to_withdraw.false
+    c.plan_edit-p.ensures c.exceeds.ensures c.requires.0 c.if-exceeds.false
 
-same-length-6 : tie.Need-same-length-6
+same-length-6 : tie.Need-shape_of-keys
 same-length-6 c = search rules
 
-same-length-7 : tie.Need-same-length-7
+same-length-7 : tie.Need-shape_of-hops
 same-length-7 c = search rules
 
-same-length-8 : tie.Need-same-length-8
+same-length-8 : tie.Need-shape_of-starts
 same-length-8 c = search rules
 
-same-length-9 : tie.Need-same-length-9
+same-length-9 : tie.Need-shape_of-rhops
 same-length-9 c = search rules
 
-returns-3 : tie.Need-returns-3
+returns-3 : tie.Need-returns
 returns-3 c =
-    let w = c.before.before.before.before.before.before.before.before in
-    let r = w.before.before.before.before.before in
-    let l = at_room r in
-    let t = at-something l in
-    let f = at-find t in
-    let s = start f in
-    fitted (handed s) s.pre.2 (key s) s.args.hop f.find.ensures t.before.nothing-to-withdraw.ensures t.if1.left
-    l.plan-edit.ensures r.before.exceeds.ensures s.pre.0 r.if2.false w.write-edit.ensures
+    fitted (handed c.before.before.before.before.before.before.before.before.before.before.before.before.before.before.before.before.before.before.before.before.before.before.before) c.requires.2 (key c.before.before.before.before.before.before.before.before.before.before.before.before.before.before.before.before.before.before.before.before.before.before.before) c.args.hop c.find-found.ensures c.nothing_to_withdraw.ensures c.if-nothing_to_withdraw.false
+    c.plan_edit-p.ensures c.exceeds.ensures c.requires.0 c.if-exceeds.false c.write_edit.ensures
 
 pub edit_agreed_spec : {M : Type 1} → statement M
 edit_agreed_spec =

@@ -20,22 +20,22 @@ rows_over : (keys hops starts rhops : List ℕ) (rows runs : ℕ) → list_room 
     → true ≡ (ltb (list_room keys hops) rows || ltb (run_room starts rhops) runs)
 rows_over keys hops starts rhops rows runs l = sym (or_left (ltb (run_room starts rhops) runs) (lt-ltb (list_room keys hops) rows l))
 
-returns : tie.Need-returns
+returns : tie.Need-returns-then-keys-rows
 unfolding list_room
 returns c =
-    let a = c.before.args in
+    let a = c.args in
     rows_over a.keys.now a.hops.now a.starts.now a.rhops.now a.rows a.runs (omega arith)
 
-returns-2 : tie.Need-returns-2
+returns-2 : tie.Need-returns-then-hops-rows
 unfolding list_room
 returns-2 c =
-    let a = c.before.before.args in
+    let a = c.args in
     rows_over a.keys.now a.hops.now a.starts.now a.rhops.now a.rows a.runs (omega arith)
 
-returns-3 : tie.Need-returns-3
+returns-3 : tie.Need-returns-then-rows-gt-TOP_ROWS
 unfolding list_room
 returns-3 c =
-    let a = c.before.before.before.args in
+    let a = c.args in
     rows_over a.keys.now a.hops.now a.starts.now a.rhops.now a.rows a.runs (omega arith)
 
 -- more runs
@@ -43,16 +43,16 @@ runs_over : (keys hops starts rhops : List ℕ) (rows runs : ℕ) → run_room s
     → true ≡ (ltb (list_room keys hops) rows || ltb (run_room starts rhops) runs)
 runs_over keys hops starts rhops rows runs l = sym (or_right (ltb (list_room keys hops) rows) (lt-ltb (run_room starts rhops) runs l))
 
-returns-4 : tie.Need-returns-4
+returns-4 : tie.Need-returns-then-starts-runs
 unfolding run_room
 returns-4 c =
-    let a = c.before.before.before.before.args in
+    let a = c.args in
     runs_over a.keys.now a.hops.now a.starts.now a.rhops.now a.rows a.runs (omega arith)
 
-returns-5 : tie.Need-returns-5
+returns-5 : tie.Need-returns-then-rhops-runs
 unfolding run_room
 returns-5 c =
-    let a = c.before.before.before.before.before.args in
+    let a = c.args in
     runs_over a.keys.now a.hops.now a.starts.now a.rhops.now a.rows a.runs (omega arith)
 
 -- or the most runs that a table may have alone decide
@@ -66,10 +66,10 @@ only_top keys hops starts rhops rows runs in_List in_starts in_rhops =
     (λ e. e ∙ sym (le-ltb _ runs (omega (arith, ltb-false 2097153 runs e))))
     (decided (ltb 2097153 runs)))
 
-returns-6 : tie.Need-returns-6
+returns-6 : tie.Need-returns
 unfolding list_room
 returns-6 c =
-    let a = c.before.before.before.before.before.args in
+    let a = c.args in
     only_top a.keys.now a.hops.now a.starts.now a.rhops.now a.rows a.runs (omega arith) (omega arith) (omega arith)
 
 pub exceeds_spec : {M : Type 1} → statement M

@@ -8,67 +8,59 @@ use Rattle.edit.proofs.agreed.write_edit.Statement.{statement}
 use Rattle.edit.proofs.agreed.write_edit.Tie as tie
 
 -- the start, from where the prefix's end is known, and the cuts of the rows inside
-abbrev start : tie.After-end-of → tie.Start
-start e = e.before.before.before.before.before.before
-
-network-requires : tie.Need-network-requires
+network-requires : tie.Need-network-net-requires
 network-requires c κs = search rules
 
-end-of-requires : tie.Need-end-of-requires
+end-of-requires : tie.Need-end_of-end-requires
 end-of-requires c κs = search rules
 
-mul-splice-runs : tie.Need-overflow-mul-splice-runs
-mul-splice-runs c = omega (arith, part_within (start c).requires)
+mul-splice-runs : tie.Need-offset_bounds-keys-from
+mul-splice-runs c = omega (arith, part_within c.requires)
 
-sub-splice-runs : tie.Need-overflow-sub-splice-runs
-sub-splice-runs c = omega (arith, part_within (start c).requires)
+sub-splice-runs : tie.Need-slice_bounds-splice_runs-count
+sub-splice-runs c = omega (arith, part_within c.requires)
 
-part-splice-runs-start : tie.Need-slice-bounds-splice-runs-start
-part-splice-runs-start c = omega (arith, part_within (start c.before).requires)
+part-splice-runs-start : tie.Need-slice_bounds-splice_runs-start
+part-splice-runs-start c = omega (arith, part_within c.requires)
 
-part-splice-runs-end : tie.Need-slice-bounds-splice-runs-end
-part-splice-runs-end c = omega (arith, part_within (start c.before).requires)
+part-splice-runs-end : tie.Need-slice_bounds-splice_runs-end
+part-splice-runs-end c = omega (arith, part_within c.requires)
 
-mul-splice-runs-2 : tie.Need-overflow-mul-splice-runs-2
-mul-splice-runs-2 c = omega (arith, part_within (start c.before.before).requires)
+mul-splice-runs-2 : tie.Need-offset_bounds-hops-from
+mul-splice-runs-2 c = omega (arith, part_within c.requires)
 
-sub-splice-runs-2 : tie.Need-overflow-sub-splice-runs-2
-sub-splice-runs-2 c = omega (arith, part_within (start c.before.before).requires)
+sub-splice-runs-2 : tie.Need-slice_bounds-splice_runs-count-2
+sub-splice-runs-2 c = omega (arith, part_within c.requires)
 
-part-splice-runs-start-2 : tie.Need-slice-bounds-splice-runs-start-2
-part-splice-runs-start-2 c = omega (arith, part_within (start c.before.before.before).requires)
+part-splice-runs-start-2 : tie.Need-slice_bounds-splice_runs-start-2
+part-splice-runs-start-2 c = omega (arith, part_within c.requires)
 
-part-splice-runs-end-2 : tie.Need-slice-bounds-splice-runs-end-2
-part-splice-runs-end-2 c = omega (arith, part_within (start c.before.before.before).requires)
+part-splice-runs-end-2 : tie.Need-slice_bounds-splice_runs-end-2
+part-splice-runs-end-2 c = omega (arith, part_within c.requires)
 
-splice-runs-requires : tie.Need-splice-runs-requires
+splice-runs-requires : tie.Need-splice_runs-requires
 splice-runs-requires c κs =
-    let e = c.before.before.before.before.before.before in
-    splice_asks (start e).requires e.before.network.ensures e.end_of_lem.ensures
+    splice_asks c.requires c.network-net.ensures c.end_of-end.ensures
 
-write-row-requires : tie.Need-write-row-requires
+write-row-requires : tie.Need-write_row-requires
 write-row-requires c κs =
-    let e = c.before.before.before.before.before.before.before.before.before.before.before.before.before in
-    row_asks (start e).requires
+    row_asks c.requires
 
-same_length : tie.Need-same-length
+same_length : tie.Need-shape_of-keys
 same_length c = search rules
 
-same-length-2 : tie.Need-same-length-2
+same-length-2 : tie.Need-shape_of-hops
 same-length-2 c = search rules
 
-same-length-3 : tie.Need-same-length-3
+same-length-3 : tie.Need-shape_of-starts
 same-length-3 c = search rules
 
-same-length-4 : tie.Need-same-length-4
+same-length-4 : tie.Need-shape_of-rhops
 same-length-4 c = search rules
 
 returns : tie.Need-returns
 returns c =
-    let r = c.before.before.before.before in
-    let t = r.before.before.before.before.before.before.before in
-    let e = t.before.before.before.before.before.before.before in
-    wrote (start e).requires e.before.network.ensures e.end_of_lem.ensures r.write-row.ensures t.splice-runs.ensures
+    wrote c.requires c.network-net.ensures c.end_of-end.ensures c.write_row.ensures c.splice_runs.ensures
 
 pub write_edit_spec : {M : Type 1} → statement M
 write_edit_spec =
