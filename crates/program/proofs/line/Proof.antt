@@ -10,41 +10,34 @@ use borrow.Author.Rules.{rules}
 use Rattle.program.proofs.line.Statement.{statement}
 use Rattle.program.proofs.line.Tie as tie
 
-text-requires : tie.Need-text-requires
+text-requires : tie.Need-text-after-requires
 text-requires c κs =
-    let st = c.before.before.before in
-    bare_fits st.args.name.now st.args.n st.requires
+    bare_fits c.args.name.now c.args.n c.requires
 
 -- the name with its space
-abbrev start : tie.After-slice-known2 → tie.Start
-start c = c.before.before.before.before.before.before
+spaced : (c : tie.After-slice_known-2-1) → let t = c.text-after in
+    (t.result < length t.new.out) × Put c.args.at (c.args.name.now ++ 32 ∷ []) (t.result + 1) c.args.out.now
+    (set t.new.out t.result 32)
+spaced c = put_space c.args.name.now c.args.n c.requires c.text-after.ensures
 
-spaced : (c : tie.After-slice-known2) → let st = start c in let t = c.before.before.text in
-    (t.result < length t.new.0) × Put st.args.at (st.args.name.now ++ 32 ∷ []) (t.result + 1) st.args.out.now
-    (set t.new.0 t.result 32)
-spaced c = put_space (start c).args.name.now (start c).args.n (start c).requires c.before.before.text.ensures
-
-slice-write-out : tie.Need-slice-write-out
+slice-write-out : tie.Need-bounds-out-after
 slice-write-out c = (spaced c).0
 
-add-number : tie.Need-overflow-add-number
+add-number : tie.Need-overflow_add-after
 add-number c = search rules
 
 number-requires : tie.Need-number-requires
 number-requires c κs =
-    let st = start c.before in
-    number_fits st.args.name.now st.args.n st.pre (spaced c.before).1
+    number_fits c.args.name.now c.args.n c.requires (spaced c.before).1
 
-same_length : tie.Need-same-length
+same_length : tie.Need-shape_of-out
 same_length c =
-    let t = c.before.before.before.before.before.before.text in
-    c.before.before.number.auto.0 ∙ simp length-set t.auto.0
+    let t = c.text-after in
+    c.number.auto.out ∙ simp length-set t.auto.out
 
 returns : tie.Need-returns
 returns c =
-    let mid = c.before.before.before.before in
-    let st = start mid in
-    put_line st.args.name.now st.args.n st.pre (spaced mid).1 c.before.before.number.ensures
+    put_line c.args.name.now c.args.n c.requires (spaced c.before.before.before.before).1 c.number.ensures
 
 pub line_spec : {M : Type 1} → statement M
 line_spec =

@@ -13,59 +13,54 @@ use Rattle.program.proofs.ProgramLines.{run_fits, put_run}
 use Rattle.program.proofs.run_lines.Statement.{statement}
 use Rattle.program.proofs.run_lines.Tie as tie
 
-abbrev invariant-loop : tie.invariant-loop
+abbrev invariant-loop : tie.invariant-loop-i
 invariant-loop out₀ from count starts hops at₀ i₀ out at i =
     (i ≤ count) × (length out ≡ length out₀) × Put from (run_lines (take i starts) (take i hops)) at out₀ out
 
-abbrev decreases-loop : tie.decreases-loop
+abbrev decreases-loop : tie.decreases-loop-i
 decreases-loop out₀ from count starts hops at₀ i₀ out at i = count - i
 
-loop-holds : tie.Need-loop-init invariant-loop decreases-loop
+loop-holds : tie.Need-loop-i-init invariant-loop decreases-loop
 loop-holds c = (search rules, refl, unfold run_lines in put_none _ _)
 
-mul-run : tie.Need-overflow-mul-run invariant-loop decreases-loop
+mul-run : tie.Need-offset_bounds-starts-i invariant-loop decreases-loop
 mul-run c = search rules
 
-shared-slice-read-run : tie.Need-shared-slice-read-run invariant-loop decreases-loop
+shared-slice-read-run : tie.Need-bounds-starts-i invariant-loop decreases-loop
 shared-slice-read-run c = search rules
 
-mul-run-2 : tie.Need-overflow-mul-run-2 invariant-loop decreases-loop
+mul-run-2 : tie.Need-offset_bounds-hops-i invariant-loop decreases-loop
 mul-run-2 c = search rules
 
-shared-slice-read-run-2 : tie.Need-shared-slice-read-run-2 invariant-loop decreases-loop
+shared-slice-read-run-2 : tie.Need-bounds-hops-i invariant-loop decreases-loop
 shared-slice-read-run-2 c = search rules
 
-run-requires : tie.Need-run-requires invariant-loop decreases-loop
+run-requires : tie.Need-run-at-requires invariant-loop decreases-loop
 run-requires c κs =
-    let lp = c.before.before.before.before in
-    let st = lp.before.before.before.before in
-    run_fits st.args.starts.now st.args.hops.now st.args.count lp.loop.i st.requires.1 (omega arith) st.requires.0.0
-    st.requires.0.1 lp.loop.invariant.2
+    run_fits c.args.starts.now c.args.hops.now c.args.count c.loop-i.i c.requires.1 (omega arith) c.requires.0.0
+    c.requires.0.1 c.loop-i.invariant.2
 
-add-i : tie.Need-overflow-add-i invariant-loop decreases-loop
+add-i : tie.Need-overflow_add-i invariant-loop decreases-loop
 add-i c = search rules
 
-loop-less : tie.Need-loop-smaller invariant-loop decreases-loop
+loop-less : tie.Need-loop-i-smaller invariant-loop decreases-loop
 loop-less c = search rules
 
-loop-again : tie.Need-loop-preserved invariant-loop decreases-loop
-loop-again c =
-    let lp = c.before.before.before.before.before.before.before in
-    let st = lp.before.before.before.before in (
-      search rules,
-      c.before.before.run.auto.0 ∙ lp.loop.invariant.1,
-      put_run st.args.starts.now st.args.hops.now st.args.count lp.loop.i st.requires.1 (omega arith) st.requires.0.0
-          st.requires.0.1 lp.loop.invariant.2 c.before.before.run.ensures,
-    )
+loop-again : tie.Need-loop-i-preserved invariant-loop decreases-loop
+loop-again c = (
+  search rules,
+  c.run-at.auto.out ∙ c.loop-i.invariant.1,
+  put_run c.args.starts.now c.args.hops.now c.args.count c.loop-i.i c.requires.1 (omega arith) c.requires.0.0
+      c.requires.0.1 c.loop-i.invariant.2 c.run-at.ensures,
+)
 
-same_length : tie.Need-same-length invariant-loop decreases-loop
+same_length : tie.Need-shape_of-out invariant-loop decreases-loop
 same_length c = search rules
 
 returns : tie.Need-returns invariant-loop decreases-loop
 returns c =
-    let st = c.before.before.before.before.before in
-    let all : c.before.loop.i ≡ st.args.count = omega arith in
-    rw all at c.before.loop.invariant.2
+    let all : c.loop-i.i ≡ c.args.count = omega arith in
+    rw all at c.loop-i.invariant.2
 
 pub run_lines_spec : {M : Type 1} → statement M
 run_lines_spec =

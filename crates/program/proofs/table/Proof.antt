@@ -13,68 +13,61 @@ use borrow.Author.Rules.{rules}
 use Rattle.program.proofs.table.Statement.{statement}
 use Rattle.program.proofs.table.Tie as tie
 
-slice-aggregate-build : tie.Need-slice-aggregate-build
+slice-aggregate-build : tie.Need-slice_bounds-build-end-3
 slice-aggregate-build c = search rules
 
-slice-aggregate-build-2 : tie.Need-slice-aggregate-build-2
+slice-aggregate-build-2 : tie.Need-slice_bounds-build-end-4
 slice-aggregate-build-2 c = search rules
 
 build-requires : tie.Need-build-requires
 build-requires c κs = search rules
 
-enum-known-n : tie.Need-enum-known-n
+enum-known-n : tie.Need-enum_known-n
 enum-known-n c = search rules
 
 -- what the build gave
-abbrev start : tie.After-build → tie.Start
-start c = c.before.before.before.before.before.before
-
 module _ (c : tie.After-build) where
-  abbrev keys_room : length (start c).args.keys.now ≡ 1024
-  keys_room = c.before.before.before.before.build-arg.given.0
+  abbrev keys_room : length c.args.keys.now ≡ 1024
+  keys_room = c.build-arg-1.given
 
   slots_room : length (replicate {A = ℕ} 2049 0) ≡ 2049
   slots_room = length-replicate {A = ℕ} 2049 0
 
   refused_never : (tag_of built.the_type c.build.result ≡ 1) ⊎ (tag_of built.the_type c.build.result ≡ 2) → ⊥
   refused_never k =
-      let a = (start c).args in
-      never_refused a.count a.keys.now a.hops.now (replicate 2049 0) (replicate 2049 0) (start c).requires.0 keys_room slots_room
+      let a = c.args in
+      never_refused a.count a.keys.now a.hops.now (replicate 2049 0) (replicate 2049 0) c.requires.0 keys_room slots_room
       slots_room c.build.result _ _ c.build.ensures k
 
   left : (n : ℕ) → c.build.result ≡ Runs n
-      → TableLeft (rows_of (start c).args.count (start c).args.keys.now (start c).args.hops.now) n c.build.new.1.1.1.0
-      c.build.new.1.1.1.1.0
+      → TableLeft (rows_of c.args.count c.args.keys.now c.args.hops.now) n c.build.new.starts
+      c.build.new.rhops
   left n e =
-      let a = (start c).args in
-      table_left a.count a.keys.now a.hops.now (replicate 2049 0) (replicate 2049 0) (start c).requires.0 keys_room slots_room
+      let a = c.args in
+      table_left a.count a.keys.now a.hops.now (replicate 2049 0) (replicate 2049 0) c.requires.0 keys_room slots_room
       slots_room c.build.result _ _ c.build.ensures e
 
-returns : tie.Need-returns
-returns c = absurd (refused_never c.before.before.before c.match.keys2)
+returns : tie.Need-returns-in_default
+returns c = absurd (refused_never c.before.before.before c.in_default.in_default-own.keys2)
 
-slice-aggregate-run-lines : tie.Need-slice-aggregate-run-lines
+slice-aggregate-run-lines : tie.Need-slice_bounds-run_lines-end
 slice-aggregate-run-lines c = search rules
 
-slice-aggregate-run-lines-2 : tie.Need-slice-aggregate-run-lines-2
+slice-aggregate-run-lines-2 : tie.Need-slice_bounds-run_lines-end-2
 slice-aggregate-run-lines-2 c = search rules
 
-run-lines-requires : tie.Need-run-lines-requires
+run-lines-requires : tie.Need-run_lines-requires
 run-lines-requires c κs =
-    let n = c.before.before.before.before in
-    let got = n.before.before.before.before in
-    let t = left got n.n.given.0.0 n.n.given.1 in
-    ((t.in_starts, t.in_hops), rw (t.starts_are, t.hops_are) (start got).requires.1)
+    let t = left c.before.before.before.before.before.before c.in-Runs.n c.in-Runs.is in
+    ((t.in_starts, t.in_hops), rw (t.starts_are, t.hops_are) c.requires.1)
 
-same_length : tie.Need-same-length
+same_length : tie.Need-shape_of-out
 same_length c = search rules
 
-returns-2 : tie.Need-returns-2
+returns-2 : tie.Need-returns
 returns-2 c =
-    let n = c.before.before.before.before.before.before.before in
-    let got = n.before.before.before.before in
-    let t = left got n.n.given.0.0 n.n.given.1 in
-    rw (t.starts_are, t.hops_are) at c.before.before.run-lines.ensures
+    let t = left c.before.before.before.before.before.before.before.before.before c.in-Runs.n c.in-Runs.is in
+    rw (t.starts_are, t.hops_are) at c.run_lines.ensures
 
 pub table_spec : {M : Type 1} → statement M
 table_spec =

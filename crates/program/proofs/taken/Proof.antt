@@ -7,22 +7,18 @@ use borrow.Author.Rules.{rules}
 use Rattle.program.proofs.taken.Statement.{statement}
 use Rattle.program.proofs.taken.Tie as tie
 
-slice-aggregate-import : tie.Need-slice-aggregate-import
+slice-aggregate-import : tie.Need-slice_bounds-import-end-3
 slice-aggregate-import c = search rules
 
-import-requires : tie.Need-import-requires
+import-requires : tie.Need-import-i-requires
 import-requires c κs = search rules
 
 returns : tie.Need-returns
 returns c =
-    let got = c.before.before in
-    let arg2 = got.before.before in
-    let arg = arg2.before in
-    let st = arg.before.before in
-    import_taken st.args.feed.now
-    (record { keys = st.args.keys.now; hops = st.args.hops.now; report = replicate 16384 0 })
-    st.requires (length-replicate {A = ℕ} 16384 0) arg.import-arg.given.0.1 arg2.import-arg2.given.0.1 got.import.result
-    got.import.ensures
+    import_taken c.args.feed.now
+    (record { keys = c.args.keys.now; hops = c.args.hops.now; report = replicate 16384 0 })
+    c.requires (length-replicate {A = ℕ} 16384 0) c.import-arg-1.given.0.1 c.import-arg-2-1.given.0.1 c.import-i.result
+    c.import-i.ensures
 
 pub taken_spec : {M : Type 1} → statement M
 taken_spec = tie.close (tie.spec slice-aggregate-import import-requires returns)

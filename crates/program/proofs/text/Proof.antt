@@ -14,46 +14,45 @@ use Rattle.program.proofs.ProgramLines.{put_next}
 use Rattle.program.proofs.text.Statement.{statement}
 use Rattle.program.proofs.text.Tie as tie
 
-abbrev invariant-loop : tie.invariant-loop
+abbrev invariant-loop : tie.invariant-loop-i
 invariant-loop out₀ at bytes i₀ out i = (i ≤ length bytes) × (length out ≡ length out₀) × Put at (take i bytes) (at + i) out₀ out
 
-abbrev decreases-loop : tie.decreases-loop
+abbrev decreases-loop : tie.decreases-loop-i
 decreases-loop out₀ at bytes i₀ out i = length bytes - i
 
-loop-holds : tie.Need-loop-init invariant-loop decreases-loop
+loop-holds : tie.Need-loop-i-init invariant-loop decreases-loop
 loop-holds c = (search rules, refl, rw add-zero (put_none c.args.at c.args.out.now))
 
-shared-slice-read-out : tie.Need-shared-slice-read-out invariant-loop decreases-loop
+shared-slice-read-out : tie.Need-bounds-bytes-i invariant-loop decreases-loop
 shared-slice-read-out c = search rules
 
-add-out : tie.Need-overflow-add-out invariant-loop decreases-loop
+add-out : tie.Need-overflow_add-out invariant-loop decreases-loop
 add-out c = search rules
 
-slice-write-out : tie.Need-slice-write-out invariant-loop decreases-loop
+slice-write-out : tie.Need-bounds-out-at invariant-loop decreases-loop
 slice-write-out c = search rules
 
-add-i : tie.Need-overflow-add-i invariant-loop decreases-loop
+add-i : tie.Need-overflow_add-i invariant-loop decreases-loop
 add-i c = search rules
 
-loop-less : tie.Need-loop-smaller invariant-loop decreases-loop
+loop-less : tie.Need-loop-i-smaller invariant-loop decreases-loop
 loop-less c = search rules
 
-loop-again : tie.Need-loop-preserved invariant-loop decreases-loop
+loop-again : tie.Need-loop-i-preserved invariant-loop decreases-loop
 loop-again c =
-    let st = c.before.before.before in
-    (search rules, simp length-set c.before.before.loop.invariant.1, put_next st.requires (omega arith) c.before.before.loop.invariant.2)
+    (search rules, simp length-set c.loop-i.invariant.1, put_next c.requires (omega arith) c.loop-i.invariant.2)
 
-add-result : tie.Need-overflow-add-result invariant-loop decreases-loop
+add-result : tie.Need-overflow_add-result invariant-loop decreases-loop
 add-result c = search rules
 
-same_length : tie.Need-same-length invariant-loop decreases-loop
+same_length : tie.Need-shape_of-out invariant-loop decreases-loop
 same_length c = search rules
 
 returns : tie.Need-returns invariant-loop decreases-loop
 returns c =
-    let all : take c.before.loop.i c.before.before.args.bytes.now ≡ c.before.before.args.bytes.now =
-    take_all c.before.loop.i _ (omega arith) in
-    rw all at c.before.loop.invariant.2
+    let all : take c.loop-i.i c.args.bytes.now ≡ c.args.bytes.now =
+    take_all c.loop-i.i _ (omega arith) in
+    rw all at c.loop-i.invariant.2
 
 pub text_spec : {M : Type 1} → statement M
 text_spec =
