@@ -101,7 +101,7 @@ module _ (count : ℕ) (keys hops : List ℕ) (well : well_formed count keys hop
         go : (b : Bool) → holds (get_or keys i 0) a ≡ b → matching a (rows_of i keys hops) ≡ map (row_at keys hops) (places_to keys a i)
             → matching a (rows_of (suc i) keys hops) ≡ map (row_at keys hops) (places_to keys a (suc i))
         go true e rec =
-            rw (one, place_in keys a i e, map-append)
+            rw (one, place_in keys a i e, map-append (row_at keys hops) (places_to keys a i) (i ∷ []))
             (those_one (λ r. holds r.key a) (rows_of i keys hops) _ e ∙ ap (◌++ row_at keys hops i ∷ []) rec)
         go false e rec = rw (one, place_out keys a i e) (those_none (λ r. holds r.key a) (rows_of i keys hops) _ e ∙ rec)
 

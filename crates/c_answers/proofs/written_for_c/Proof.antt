@@ -5,35 +5,35 @@ use borrow.Author.Rules.{rules}
 use Rattle.c_answers.proofs.written_for_c.Statement.{statement}
 use Rattle.c_answers.proofs.written_for_c.Tie as tie
 
-enum-known-r : tie.Need-enum-known-r
+enum-known-r : tie.Need-enum_known-r
 enum-known-r c = search rules
 
-enum_told : tie.Need-enum-told
+enum_told : tie.Need-enum_told-1
 enum_told c = search rules
 
-cast-result : tie.Need-overflow-cast-result
+cast-result : tie.Need-overflow_cast-result
 cast-result c = search rules
 
-mul-result : tie.Need-overflow-mul-result
+mul-result : tie.Need-overflow_mul-result
 mul-result c = search rules
 
-enum-told-2 : tie.Need-enum-told-2
+enum-told-2 : tie.Need-enum_told-in-NoRoom
 enum-told-2 c = search rules
 
-cast-result-2 : tie.Need-overflow-cast-result-2
+cast-result-2 : tie.Need-overflow_cast-result-in-NoRoom
 cast-result-2 c = search rules
 
-mul-result-2 : tie.Need-overflow-mul-result-2
+mul-result-2 : tie.Need-overflow_mul-result-in-NoRoom
 mul-result-2 c = search rules
 
-returns : tie.Need-returns
-returns c = text_carried _ c.before.r.given.1
+returns : tie.Need-returns-in-Text
+returns c = text_carried _ c.in-Text.is
 
-returns-2 : tie.Need-returns-2
-returns-2 c = unwritten_list_carried _ c.enum_told.given.1
+returns-2 : tie.Need-returns-in-IllFormed
+returns-2 c = unwritten_list_carried _ c.in-IllFormed.is
 
-returns-3 : tie.Need-returns-3
-returns-3 c = long_text_carried _ c.enum-told2.given.1
+returns-3 : tie.Need-returns-in-NoRoom
+returns-3 c = long_text_carried _ c.in-NoRoom.is
 
 pub written_for_c_spec : {M : Type 1} → statement M
 written_for_c_spec =

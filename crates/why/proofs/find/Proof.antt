@@ -11,64 +11,61 @@ use Rattle.why.proofs.Walking.{Noting, noting_start, note_fits, noting_one, noti
 use Rattle.why.proofs.find.Statement.{statement}
 use Rattle.why.proofs.find.Tie as tie
 
-abbrev invariant-loop : tie.invariant-loop
+abbrev invariant-loop : tie.invariant-loop-left
 invariant-loop count keys hops a found₀ n₀ left₀ found n left = (left ≤ count) × Noting count keys a found₀ n (count - left) found
 
-abbrev decreases-loop : tie.decreases-loop
+abbrev decreases-loop : tie.decreases-loop-left
 decreases-loop count keys hops a found₀ n₀ left₀ found n left = left
 
-loop-holds : tie.Need-loop-init invariant-loop decreases-loop
+loop-holds : tie.Need-loop-left-init invariant-loop decreases-loop
 loop-holds c = (omega arith, noting_start _ _ _ _ _ (omega arith))
 
-sub_at : tie.Need-overflow-sub-at invariant-loop decreases-loop
+sub_at : tie.Need-overflow_sub-at invariant-loop decreases-loop
 sub_at c = omega arith
 
-mul_holds : tie.Need-overflow-mul-holds invariant-loop decreases-loop
-mul_holds c = omega (arith, rows_few _ _ _ c.before.before.before.before.requires.0)
+mul_holds : tie.Need-offset_bounds-keys-at invariant-loop decreases-loop
+mul_holds c = omega (arith, rows_few _ _ _ c.requires.0)
 
-shared-slice-read-holds : tie.Need-shared-slice-read-init invariant-loop decreases-loop
-shared-slice-read-holds c = omega (arith, keys_there _ _ _ c.before.before.before.before.before.requires.0)
+shared-slice-read-holds : tie.Need-bounds-keys-at invariant-loop decreases-loop
+shared-slice-read-holds c = omega (arith, keys_there _ _ _ c.requires.0)
 
 holds-requires : tie.Need-holds-requires invariant-loop decreases-loop
 holds-requires c κs = search rules
 
 -- a row that holds the address finds a free slot
-room : (c : tie.Then1 invariant-loop decreases-loop) → c.before.before.before.before.loop.n < 33
+room : (c : tie.Then-holds invariant-loop decreases-loop) → c.loop-left.n < 33
 room c =
-    let at-loop = c.before.before.before.before in
-    let start = at-loop.before.before.before in
-    note_fits _ start.requires.0 at-loop.loop.invariant.1 (omega arith)
-    (sym c.before.holds.ensures ∙ c.if1.true)
+    note_fits _ c.requires.0 c.loop-left.invariant.1 (omega arith)
+    (sym c.holds.ensures ∙ c.if-holds.true)
 
-mul-found : tie.Need-overflow-mul-found invariant-loop decreases-loop
+mul-found : tie.Need-offset_bounds-found-n invariant-loop decreases-loop
 mul-found c = omega (arith, room c)
 
-element-write-found : tie.Need-element-write-found invariant-loop decreases-loop
-element-write-found c = room c
+element-write-found : tie.Need-bounds-found-n invariant-loop decreases-loop
+element-write-found c = room c.before
 
-add-n : tie.Need-overflow-add-n invariant-loop decreases-loop
-add-n c = omega (arith, room c)
+add-n : tie.Need-overflow_add-n invariant-loop decreases-loop
+add-n c = omega (arith, room c.before)
 
-sub-left : tie.Need-overflow-sub-left invariant-loop decreases-loop
+sub-left : tie.Need-overflow_sub-left invariant-loop decreases-loop
 sub-left c = omega arith
 
-loop-less : tie.Need-loop-smaller invariant-loop decreases-loop
+loop-less : tie.Need-loop-left-smaller invariant-loop decreases-loop
 loop-less c = omega arith
 
-loop-again : tie.Need-loop-preserved invariant-loop decreases-loop
+loop-again : tie.Need-loop-left-preserved invariant-loop decreases-loop
 loop-again c =
-    let at-loop = c.before.before.before.before in
-    let pre = at-loop.before.before.before.requires in
-    let inv = at-loop.loop.invariant.1 in
+    let pre = c.requires in
+    let inv = c.loop-left.invariant.1 in
     ⊎_elim
-    (λ w. rw (w.1, w.2)
-    (omega arith, noting_one _ pre.0 inv (omega arith) (sym c.before.holds.ensures ∙ w.0.taken) pre.1 _ (omega arith)))
-    (λ w. rw (w.1, w.2)
-    (omega arith, noting_none _ pre.0 inv (omega arith) (sym c.before.holds.ensures ∙ w.0.left) _ (omega arith)))
-    c.if1.branch
+    (λ w. rw (w.found-is, w.n-is)
+    (omega arith, noting_one _ pre.0 inv (omega arith) (sym c.holds.ensures ∙ w.if-holds.true) pre.1 _ (omega arith)))
+    (λ w. rw (w.found-is, w.n-is)
+    (omega arith, noting_none _ pre.0 inv (omega arith) (sym c.holds.ensures ∙ w.if-holds.false) _ (omega arith)))
+    c.if-holds.branch-raw
 
 returns : tie.Need-returns invariant-loop decreases-loop
-returns c = noting_end _ c.before.before.before.before.requires.0 c.before.loop.invariant.1 (omega arith)
+returns c = noting_end _ c.requires.0 c.loop-left.invariant.1 (omega arith)
 
 pub find_spec : {M : Type 1} → statement M
 find_spec =

@@ -12,61 +12,56 @@ use Rattle.why.proofs.Outcome.{text_ill, noted_few, noted_long, noted_there, tex
 use Rattle.why.proofs.why_text.Statement.{statement}
 use Rattle.why.proofs.why_text.Tie as tie
 
-list-ok-requires : tie.Need-list-ok-requires
+list-ok-requires : tie.Need-list_ok-requires
 list-ok-requires c κs = search rules
 
 -- what the branch past the list test knows
-ok : (c : tie.Else1) → let a = c.before.before.before.before.before.args in
+ok : (c : tie.Else-not-list_ok) → let a = c.args in
     well_formed a.count a.keys.now a.hops.now ≡ true
-ok c = list_test _ _ _ c.before.list-ok.ensures ∙ not-false _ c.if1.false
+ok c = list_test _ _ _ c.list_ok.ensures ∙ c.if-not-list_ok.false
 
-returns : tie.Need-returns
-returns c = text_ill _ _ _ (list_test _ _ _ c.before.list-ok.ensures ∙ not-true _ c.if1.true)
+returns : tie.Need-returns-then-not-list_ok
+returns c = text_ill _ _ _ (list_test _ _ _ c.list_ok.ensures ∙ c.if-not-list_ok.true)
 
-find-requires : tie.Need-find-requires
+find-requires : tie.Need-find-n-requires
 find-requires c κs = (ok c.before, refl)
 
-slice-aggregate-gather : tie.Need-slice-aggregate-gather
+slice-aggregate-gather : tie.Need-slice_bounds-gather-end
 slice-aggregate-gather c =
-    let found = c.before in
-    let e = found.find.ensures in
-    noted_long _ _ (ok found.before.before) _ refl e.0 e.1
+    let e = c.find-n.ensures in
+    noted_long _ _ (ok c.before.before.before) _ refl e.0 e.1
 
-slice-aggregate-gather-2 : tie.Need-slice-aggregate-gather-2
+slice-aggregate-gather-2 : tie.Need-slice_bounds-gather-end-2
 slice-aggregate-gather-2 c = search rules
 
-slice-aggregate-gather-3 : tie.Need-slice-aggregate-gather-3
+slice-aggregate-gather-3 : tie.Need-slice_bounds-gather-end-3
 slice-aggregate-gather-3 c = search rules
 
 gather-requires : tie.Need-gather-requires
 gather-requires c κs =
-    let found = c.before.before.before in
-    let e = found.find.ensures in
-    let well = ok found.before.before in
+    let e = c.find-n.ensures in
+    let well = ok c.before.before.before.before.before in
     let few = noted_few _ _ well _ refl e.0 e.1 in
     let long = noted_long _ _ well _ refl e.0 e.1 in
     ((omega arith, few, few), noted_there _ _ well _ refl e.0 e.1)
 
-slice-aggregate-write : tie.Need-slice-aggregate-write
+slice-aggregate-write : tie.Need-slice_bounds-write-end
 slice-aggregate-write c = search rules
 
-slice-aggregate-write-2 : tie.Need-slice-aggregate-write-2
+slice-aggregate-write-2 : tie.Need-slice_bounds-write-end-2
 slice-aggregate-write-2 c = search rules
 
 write-requires : tie.Need-write-requires
 write-requires c κs = search rules
 
-same_length : tie.Need-same-length
+same_length : tie.Need-shape_of-out
 same_length c = search rules
 
-returns-2 : tie.Need-returns-2
+returns-2 : tie.Need-returns
 returns-2 c =
-    let called = c.before.before in
-    let gathered = called.before.before.before.before.before.before in
-    let g = gathered.gather.ensures in
-    let found = gathered.before.before.before.before in
-    let e = found.find.ensures in
-    text_of_gathered _ _ (ok found.before.before) _ refl e.0 e.1 _ _ g.0 g.1 _ _ called.write.ensures refl
+    let g = c.gather.ensures in
+    let e = c.find-n.ensures in
+    text_of_gathered _ _ (ok c.before.before.before.before.before.before.before.before.before.before.before.before.before.before) _ refl e.0 e.1 _ _ g.0 g.1 _ _ c.write.ensures refl
 
 pub why_text_spec : {M : Type 1} → statement M
 why_text_spec =
