@@ -6,80 +6,76 @@ use Rattle.c_structs.specs.Structs.{counts_for_c}
 use Rattle.c_structs.proofs.counts_for_c.Statement.{statement}
 use Rattle.c_structs.proofs.counts_for_c.Tie as tie
 
-number-of-requires : tie.Need-number-of-requires
+number-of-requires : tie.Need-number_of-requires
 number-of-requires c κs = search rules
 
-cast-t6 : tie.Need-overflow-cast-t6
+cast-t6 : tie.Need-overflow_cast-result
 cast-t6 c = search rules
 
-mul-t7 : tie.Need-overflow-mul-t7
+mul-t7 : tie.Need-offset_bounds-c
 mul-t7 c = search rules
 
-element-copy-out-t10 : tie.Need-element-copy-out-t10
+element-copy-out-t10 : tie.Need-bounds-c
 element-copy-out-t10 c = search rules
 
-cast-t11 : tie.Need-overflow-cast-t11
+cast-t11 : tie.Need-overflow_cast-result-2
 cast-t11 c = search rules
 
-mul-t12 : tie.Need-overflow-mul-t12
+mul-t12 : tie.Need-offset_bounds-c-2
 mul-t12 c = search rules
 
-element-copy-out-t15 : tie.Need-element-copy-out-t15
+element-copy-out-t15 : tie.Need-bounds-c-2
 element-copy-out-t15 c = search rules
 
-cast-t16 : tie.Need-overflow-cast-t16
+cast-t16 : tie.Need-overflow_cast-result-3
 cast-t16 c = search rules
 
-mul-t17 : tie.Need-overflow-mul-t17
+mul-t17 : tie.Need-offset_bounds-c-3
 mul-t17 c = search rules
 
-element-copy-out-t20 : tie.Need-element-copy-out-t20
+element-copy-out-t20 : tie.Need-bounds-c-3
 element-copy-out-t20 c = search rules
 
-cast-t21 : tie.Need-overflow-cast-t21
+cast-t21 : tie.Need-overflow_cast-result-4
 cast-t21 c = search rules
 
-mul-t22 : tie.Need-overflow-mul-t22
+mul-t22 : tie.Need-offset_bounds-c-4
 mul-t22 c = search rules
 
-element-copy-out-t25 : tie.Need-element-copy-out-t25
+element-copy-out-t25 : tie.Need-bounds-c-4
 element-copy-out-t25 c = search rules
 
-cast-t26 : tie.Need-overflow-cast-t26
+cast-t26 : tie.Need-overflow_cast-result-5
 cast-t26 c = search rules
 
-mul-t27 : tie.Need-overflow-mul-t27
+mul-t27 : tie.Need-offset_bounds-c-5
 mul-t27 c = search rules
 
-element-copy-out-t30 : tie.Need-element-copy-out-t30
+element-copy-out-t30 : tie.Need-bounds-c-5
 element-copy-out-t30 c = search rules
 
-cast-t31 : tie.Need-overflow-cast-t31
+cast-t31 : tie.Need-overflow_cast-result-6
 cast-t31 c = search rules
 
-mul-t32 : tie.Need-overflow-mul-t32
+mul-t32 : tie.Need-offset_bounds-c-6
 mul-t32 c = search rules
 
-element-copy-out-t35 : tie.Need-element-copy-out-t35
+element-copy-out-t35 : tie.Need-bounds-c-6
 element-copy-out-t35 c = search rules
 
-cast-t36 : tie.Need-overflow-cast-t36
+cast-t36 : tie.Need-overflow_cast-result-7
 cast-t36 c = search rules
 
-mul-t37 : tie.Need-overflow-mul-t37
+mul-t37 : tie.Need-offset_bounds-c-7
 mul-t37 c = search rules
 
-element-copy-out-t40 : tie.Need-element-copy-out-t40
+element-copy-out-t40 : tie.Need-bounds-c-7
 element-copy-out-t40 c = search rules
 
 -- the place where the number is known, before the counts are read
-abbrev at-number : tie.After-t30 → tie.After-number-of
-at-number c = c.before.before.before.before.before
-
 returns : tie.Need-returns
 returns c =
-    let n = at-number c.before.before in
-    ap (λ m. counts_for_c m n.before.before.args.i.counts) n.number_of_lem.ensures
+    ap (λ m. counts_for_c m c.args.i.counts) c.number_of.ensures
 
 pub counts_for_c_spec : {M : Type 1} → statement M
 counts_for_c_spec =

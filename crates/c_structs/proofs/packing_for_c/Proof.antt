@@ -6,41 +6,41 @@ use borrow.Author.Rules.{rules}
 use Rattle.c_structs.proofs.packing_for_c.Statement.{statement}
 use Rattle.c_structs.proofs.packing_for_c.Tie as tie
 
-enum-known-r : tie.Need-enum-known-r
+enum-known-r : tie.Need-enum_known-r
 enum-known-r c = search rules
 
-cast-t6 : tie.Need-overflow-cast-t6
+cast-t6 : tie.Need-overflow_cast-result
 cast-t6 c = search rules
 
-enum_told : tie.Need-enum-told
+enum_told : tie.Need-enum_told-1
 enum_told c = search rules
 
-not-packed-requires : tie.Need-not-packed-requires
+not-packed-requires : tie.Need-not_packed-requires
 not-packed-requires c κs = search rules
 
-enum-told-2 : tie.Need-enum-told-2
+enum-told-2 : tie.Need-enum_told-in-NotItsRuns
 enum-told-2 c = search rules
 
-not-packed-requires-2 : tie.Need-not-packed-requires-2
+not-packed-requires-2 : tie.Need-not_packed-requires-in-NotItsRuns
 not-packed-requires-2 c κs = search rules
 
-enum-told-3 : tie.Need-enum-told-3
+enum-told-3 : tie.Need-enum_told-in-NoRoom
 enum-told-3 c = search rules
 
-not-packed-requires-3 : tie.Need-not-packed-requires-3
+not-packed-requires-3 : tie.Need-not_packed-requires-in-NoRoom
 not-packed-requires-3 c κs = search rules
 
-returns : tie.Need-returns
-returns c = packed_carried _ c.before.r.given.1
+returns : tie.Need-returns-in-Done
+returns c = packed_carried _ c.in-Done.is
 
-returns-2 : tie.Need-returns-2
-returns-2 c = c.not-packed.ensures ∙ ill_formed_carried _ c.before.enum_told.given.1
+returns-2 : tie.Need-returns-in-IllFormed
+returns-2 c = c.not_packed.ensures ∙ ill_formed_carried _ c.in-IllFormed.is
 
-returns-3 : tie.Need-returns-3
-returns-3 c = c.not-packed2.ensures ∙ not_its_runs_carried _ c.before.enum-told2.given.1
+returns-3 : tie.Need-returns-in-NotItsRuns
+returns-3 c = c.not_packed-in-NotItsRuns.ensures ∙ not_its_runs_carried _ c.in-NotItsRuns.is
 
-returns-4 : tie.Need-returns-4
-returns-4 c = c.not-packed3.ensures ∙ no_room_carried _ c.before.enum-told3.given.1
+returns-4 : tie.Need-returns-in-NoRoom
+returns-4 c = c.not_packed-in-NoRoom.ensures ∙ no_room_carried _ c.in-NoRoom.is
 
 pub packing_for_c_spec : {M : Type 1} → statement M
 packing_for_c_spec =
