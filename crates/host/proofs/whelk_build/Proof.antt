@@ -8,23 +8,20 @@ use Rattle.host.proofs.whelk_build.Tie as tie
 build-requires : tie.Need-build-requires
 build-requires c κs = search rules
 
-built-for-c-requires : tie.Need-built-for-c-requires
+built-for-c-requires : tie.Need-built_for_c-requires
 built-for-c-requires c κs = search rules
 
-same_length : tie.Need-same-length
+same_length : tie.Need-shape_of-starts
 same_length c = search rules
 
-same-length-2 : tie.Need-same-length-2
+same-length-2 : tie.Need-shape_of-rhops
 same-length-2 c = search rules
 
 -- the build, from where the slices are known after it
-abbrev at-build : tie.After-slice-known4 → tie.After-build
-at-build c = c.before.before.before.before
-
 returns : tie.Need-returns
 returns c =
-    let b = (at-build c.before).build in
-    build_carried b.result c.built-for-c.ensures b.ensures
+    let b = c.build in
+    build_carried b.result c.built_for_c.ensures b.ensures
 
 pub whelk_build_spec : {M : Type 1} → statement M
 whelk_build_spec =

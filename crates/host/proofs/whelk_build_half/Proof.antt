@@ -5,26 +5,23 @@ use borrow.Author.Rules.{rules}
 use Rattle.host.proofs.whelk_build_half.Statement.{statement}
 use Rattle.host.proofs.whelk_build_half.Tie as tie
 
-build-half-requires : tie.Need-build-half-requires
+build-half-requires : tie.Need-build_half-requires
 build-half-requires c κs = search rules
 
-built-for-c-requires : tie.Need-built-for-c-requires
+built-for-c-requires : tie.Need-built_for_c-requires
 built-for-c-requires c κs = search rules
 
-same_length : tie.Need-same-length
+same_length : tie.Need-shape_of-starts
 same_length c = search rules
 
-same-length-2 : tie.Need-same-length-2
+same-length-2 : tie.Need-shape_of-rlabels
 same-length-2 c = search rules
 
 -- the build, from where the slices are known after it
-abbrev at-build : tie.After-slice-known4 → tie.After-build-half
-at-build c = c.before.before.before.before
-
 returns : tie.Need-returns
 returns c =
-    let b = (at-build c.before).build-half in
-    build_carried b.result c.built-for-c.ensures b.ensures
+    let b = c.build_half in
+    build_carried b.result c.built_for_c.ensures b.ensures
 
 pub whelk_build_half_spec : {M : Type 1} → statement M
 whelk_build_half_spec =

@@ -6,14 +6,14 @@ use borrow.Author.Rules.{rules}
 use Rattle.host.proofs.whelk_half_lookup.Statement.{statement}
 use Rattle.host.proofs.whelk_half_lookup.Tie as tie
 
-half-lookup-requires : tie.Need-half-lookup-requires
+half-lookup-requires : tie.Need-half_lookup-requires
 half-lookup-requires c κs = search rules
 
-lookup-for-c-requires : tie.Need-lookup-for-c-requires
+lookup-for-c-requires : tie.Need-lookup_for_c-requires
 lookup-for-c-requires c κs = search rules
 
 returns : tie.Need-returns
-returns c = c.lookup-for-c.ensures ∙ ap lookup_for_c c.before.half_lookup_lem.ensures
+returns c = c.lookup_for_c.ensures ∙ ap lookup_for_c c.half_lookup.ensures
 
 pub whelk_half_lookup_spec : {M : Type 1} → statement M
 whelk_half_lookup_spec = tie.close (tie.spec half-lookup-requires lookup-for-c-requires returns)

@@ -8,28 +8,23 @@ use Rattle.host.proofs.whelk_import.Tie as tie
 import-requires : tie.Need-import-requires
 import-requires c κs = search rules
 
-counts-for-c-requires : tie.Need-counts-for-c-requires
+counts-for-c-requires : tie.Need-counts_for_c-requires
 counts-for-c-requires c κs = search rules
 
-same_length : tie.Need-same-length
+same_length : tie.Need-shape_of-keys
 same_length c = search rules
 
-same-length-2 : tie.Need-same-length-2
+same-length-2 : tie.Need-shape_of-hops
 same-length-2 c = search rules
 
-same-length-3 : tie.Need-same-length-3
+same-length-3 : tie.Need-shape_of-report
 same-length-3 c = search rules
 
 -- the import, from where the slices are known after it
-abbrev at-import : tie.After-slice-known6 → tie.After-import
-at-import c =
-    let hops = c.before.before.before in
-    hops.before.before.before
-
 returns : tie.Need-returns
 returns c =
-    let i = (at-import c.before).import in
-    import_carried _ _ i.result c.counts-for-c.ensures i.ensures
+    let i = c.import in
+    import_carried _ _ i.result c.counts_for_c.ensures i.ensures
 
 pub whelk_import_spec : {M : Type 1} → statement M
 whelk_import_spec =

@@ -8,28 +8,23 @@ use Rattle.host.proofs.whelk_pack.Tie as tie
 pack-requires : tie.Need-pack-requires
 pack-requires c κs = search rules
 
-packing-for-c-requires : tie.Need-packing-for-c-requires
+packing-for-c-requires : tie.Need-packing_for_c-requires
 packing-for-c-requires c κs = search rules
 
-same_length : tie.Need-same-length
+same_length : tie.Need-shape_of-words
 same_length c = search rules
 
-same-length-2 : tie.Need-same-length-2
+same-length-2 : tie.Need-shape_of-bases
 same-length-2 c = search rules
 
-same-length-3 : tie.Need-same-length-3
+same-length-3 : tie.Need-shape_of-out
 same-length-3 c = search rules
 
 -- the packing, from where the slices are known after it
-abbrev at-pack : tie.After-slice-known6 → tie.After-pack
-at-pack c =
-    let bases = c.before.before.before in
-    bases.before.before.before
-
 returns : tie.Need-returns
 returns c =
-    let p = (at-pack c.before).pack in
-    pack_carried p.result c.packing-for-c.ensures p.ensures
+    let p = c.pack in
+    pack_carried p.result c.packing_for_c.ensures p.ensures
 
 pub whelk_pack_spec : {M : Type 1} → statement M
 whelk_pack_spec =

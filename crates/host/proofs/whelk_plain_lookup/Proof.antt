@@ -6,14 +6,14 @@ use borrow.Author.Rules.{rules}
 use Rattle.host.proofs.whelk_plain_lookup.Statement.{statement}
 use Rattle.host.proofs.whelk_plain_lookup.Tie as tie
 
-plain-lookup-requires : tie.Need-plain-lookup-requires
+plain-lookup-requires : tie.Need-plain_lookup-requires
 plain-lookup-requires c κs = search rules
 
-lookup-for-c-requires : tie.Need-lookup-for-c-requires
+lookup-for-c-requires : tie.Need-lookup_for_c-requires
 lookup-for-c-requires c κs = search rules
 
 returns : tie.Need-returns
-returns c = c.lookup-for-c.ensures ∙ ap lookup_for_c c.before.plain_lookup_lem.ensures
+returns c = c.lookup_for_c.ensures ∙ ap lookup_for_c c.plain_lookup.ensures
 
 pub whelk_plain_lookup_spec : {M : Type 1} → statement M
 whelk_plain_lookup_spec = tie.close (tie.spec plain-lookup-requires lookup-for-c-requires returns)

@@ -6,35 +6,34 @@ use Rattle.host.proofs.HeldCarried.{held_refused, held_short, held_carried}
 use Rattle.host.proofs.whelk_run_lookup.Statement.{statement}
 use Rattle.host.proofs.whelk_run_lookup.Tie as tie
 
-bytes-lookup-requires : tie.Need-bytes-lookup-requires
+bytes-lookup-requires : tie.Need-bytes_lookup-requires
 bytes-lookup-requires c κs = search rules
 
-enum-known-hop : tie.Need-enum-known-hop
+enum-known-hop : tie.Need-enum_known-hop
 enum-known-hop c = search rules
 
-returns : tie.Need-returns
-returns c = held_short _ _ _ c.before.before.before.before.bytes_lookup_lem.ensures c.before.before.hop.given.1 _ (omega arith)
+returns : tie.Need-returns-then-out-lt4
+returns c = held_short _ _ _ c.bytes_lookup.ensures c.in-Hop.is _ (omega arith)
 
-put-address-requires : tie.Need-put-address-requires
+put-address-requires : tie.Need-put_address-requires
 put-address-requires c κs = search rules
 
-cast-result : tie.Need-overflow-cast-result
+cast-result : tie.Need-overflow_cast-result
 cast-result c = search rules
 
-enum_told : tie.Need-enum-told
+enum_told : tie.Need-enum_told-1
 enum_told c = search rules
 
-same_length : tie.Need-same-length
+same_length : tie.Need-shape_of-out
 same_length c = search rules
 
-returns-2 : tie.Need-returns-2
+returns-2 : tie.Need-returns-else-out-lt4
 returns-2 c =
-    let h = c.before.before.before.before.before.before in
-    let found = h.before.before.bytes_lookup_lem.ensures in
-    rw c.before.before.put-address.ensures (held_carried _ _ _ found h.hop.given.1 _ (omega arith))
+    let found = c.bytes_lookup.ensures in
+    rw c.put_address.ensures (held_carried _ _ _ found c.in-Hop.is _ (omega arith))
 
-returns-3 : tie.Need-returns-3
-returns-3 c = held_refused _ _ _ c.before.before.bytes_lookup_lem.ensures c.enum_told.given.1 _
+returns-3 : tie.Need-returns-in-IllFormed
+returns-3 c = held_refused _ _ _ c.bytes_lookup.ensures c.in-IllFormed.is _
 
 pub whelk_run_lookup_spec : {M : Type 1} → statement M
 whelk_run_lookup_spec =

@@ -8,23 +8,20 @@ use Rattle.host.proofs.whelk_split.Tie as tie
 split-requires : tie.Need-split-requires
 split-requires c κs = search rules
 
-parted-for-c-requires : tie.Need-parted-for-c-requires
+parted-for-c-requires : tie.Need-parted_for_c-requires
 parted-for-c-requires c κs = search rules
 
-same_length : tie.Need-same-length
+same_length : tie.Need-shape_of-out
 same_length c = search rules
 
-same-length-2 : tie.Need-same-length-2
+same-length-2 : tie.Need-shape_of-labels
 same-length-2 c = search rules
 
 -- the split, from where the slices are known after it
-abbrev at_split : tie.After-slice-known4 → tie.After-split
-at_split c = c.before.before.before.before
-
 returns : tie.Need-returns
 returns c =
-    let s = (at_split c.before).split in
-    split_carried s.result c.parted-for-c.ensures s.ensures
+    let s = c.split in
+    split_carried s.result c.parted_for_c.ensures s.ensures
 
 pub whelk_split_spec : {M : Type 1} → statement M
 whelk_split_spec =

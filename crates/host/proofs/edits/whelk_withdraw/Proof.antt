@@ -8,31 +8,26 @@ use Rattle.host.proofs.edits.whelk_withdraw.Tie as tie
 withdraw-requires : tie.Need-withdraw-requires
 withdraw-requires c κs = search rules
 
-edit-for-c-requires : tie.Need-edit-for-c-requires
+edit-for-c-requires : tie.Need-edit_for_c-requires
 edit-for-c-requires c κs = search rules
 
-same_length : tie.Need-same-length
+same_length : tie.Need-shape_of-keys
 same_length c = search rules
 
-same-length-2 : tie.Need-same-length-2
+same-length-2 : tie.Need-shape_of-hops
 same-length-2 c = search rules
 
-same-length-3 : tie.Need-same-length-3
+same-length-3 : tie.Need-shape_of-starts
 same-length-3 c = search rules
 
-same-length-4 : tie.Need-same-length-4
+same-length-4 : tie.Need-shape_of-rhops
 same-length-4 c = search rules
 
 -- the withdrawal, from where the slices are known after it
-abbrev at-withdraw : tie.After-slice-known8 → tie.After-withdraw
-at-withdraw c =
-    let starts = c.before.before.before.before in
-    starts.before.before.before.before
-
 returns : tie.Need-returns
 returns c =
-    let e = (at-withdraw c.before).withdraw in
-    edit_carried e.result c.edit-for-c.ensures e.ensures
+    let e = c.withdraw in
+    edit_carried e.result c.edit_for_c.ensures e.ensures
 
 pub whelk_withdraw_spec : {M : Type 1} → statement M
 whelk_withdraw_spec =
