@@ -16,7 +16,7 @@ use entries::{entry, order};
 use routes::Place;
 
 // What a build of entries gives: how many there are, 15, 11, or 13.
-#[derive(Drop)]
+#[derive(Clone, Copy)]
 pub enum Entered {
     Entries(usize),
     BadLength,
@@ -25,7 +25,7 @@ pub enum Entered {
 }
 
 // What a lookup with a hint gives: the hop, stored and final or searched for; 15, 11, or 14.
-#[derive(Drop)]
+#[derive(Clone, Copy)]
 pub enum Hinted {
     Final(u16),
     Searched(u16),
@@ -35,7 +35,7 @@ pub enum Hinted {
 }
 
 // What the quick form says: this hop is final, or a search has to follow.
-#[derive(Drop)]
+#[derive(Clone, Copy)]
 pub enum Told {
     Final(u16),
     Search,
@@ -180,6 +180,7 @@ fn halve(n: usize, ekeys: &[u64], k: u64) -> usize
 }
 
 // Rule 19.7: what entries say of a clue, by halving, whatever they are: a final hop, or that a search has to follow.
+#[tactic(auto, using(crate::proofs::QuickOutcomes::room_within))]
 pub fn quick(ekeys: &[u64], ehops: &[u16], marks: &[u8], len: u32, a: u32) -> Told
     ensures { quick_gave result
         ≡ quick_lookup (entries_lent ekeys.now ehops.now marks.now) len a }

@@ -1,3 +1,2 @@
-mod Carried
 pub mod Settled
 pub mod Unpacked

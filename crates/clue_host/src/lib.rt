@@ -14,7 +14,7 @@ use clue::{Entered, Hinted, Told};
 
 // Rule 19.8: what a build of entries returns to C, its number and how many entries there are.
 #[repr(C)]
-#[derive(Drop)]
+#[derive(Clone, Copy)]
 pub struct WhelkEntries {
     pub number: usize,
     pub count: usize,
@@ -76,6 +76,7 @@ pub const NUMBER_UNIT: u64 = 65536;
 pub const HIGH_UNIT: u64 = 4294967296;
 
 // Rule 19.8: a lookup with a hint gives C hop + 65,536 × number, and 4,294,967,296 more where the hop was stored.
+#[tactic(auto, unfolding(crate::specs::Exports::hint_for_c, entries::specs::Entries::mark))]
 fn hint_for_c(r: Hinted) -> u64
     ensures { result ≡ hint_for_c (hint_gave r) }
 {
@@ -108,6 +109,7 @@ pub fn whelk_clue_lookup(
 }
 
 // Rule 19.8: the quick form gives C 65,536 + hop where the hop is final, and 0 where a search has to follow.
+#[tactic(auto, unfolding(crate::specs::Exports::quick_for_c, entries::specs::Entries::mark))]
 fn told_for_c(r: Told) -> u32
     ensures { result ≡ quick_for_c (quick_gave r) }
 {

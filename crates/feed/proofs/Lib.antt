@@ -5,7 +5,6 @@ pub mod LastRow
 mod Taking
 mod Filling
 mod Tallying
-mod Lending
 pub mod Outcome
 pub mod Settled
 pub mod PulledNumbers

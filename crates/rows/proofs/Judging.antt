@@ -1,12 +1,10 @@
--- A row of the form, judged as the code does it: zeros in front, then test by test for the range, then host bits by the prefix test on
--- the key.
+-- A row of the form, judged as the code does it: zeros in front, then the range, then host bits by the prefix test on the key.
 -- Assumes nothing.
-use mathlib.Core.Path.{◌≡◌, refl, sym, ap, ◌∙◌, subst}
+use mathlib.Core.Path.{◌≡◌, refl, ap, subst}
 use mathlib.Core.Logic.{⊎_elim}
 use mathlib.Core.Bool.{true, false, not}
-use Prim.Native.Nat.{ℕ, ◌<◌, ◌≤◌}
-use borrow.Author.Tests.{lt-ltb, le-ltb, eq-eqb, ne_eqb, le-leb, lt-leb, ltb-true, ltb-false}
-use lib.Dec.{leb, ltb}
+use Prim.Native.Nat.{◌<◌}
+use borrow.Author.Tests.{eq-eqb}
 use native.Mathlib.Omega.{arith}
 use Rattle.ground.specs.Numbers.{first_fault}
 use Rattle.ground.proofs.Truth.{decided, never_both}
@@ -16,65 +14,6 @@ use Rattle.rows.specs.declared.parse.Values.{Values}
 use Rattle.rows.specs.RowNumber.{row_zeros, row_range, row_host_bits}
 use Rattle.rows.specs.Reading.{good, bad, address_of, out_of_range, has_host_bits, numbers_fault, judged_numbers}
 use Rattle.rows.proofs.Reading.{in_range, good_prefix}
-
-at_most_not_above : (x n : ℕ) → leb x n ≡ not (ltb n x)
-at_most_not_above x n = ⊎_elim
-    (λ e. lt-leb x n (ltb-true n x e) ∙ sym (ap not e))
-    (λ e. le-leb x n (ltb-false n x e) ∙ sym (ap not e))
-    (decided (ltb n x))
-
--- one test after the other
-module _ (v : Values) where
-  pub out_a : 255 < v.a → false ≡ not (out_of_range v)
-  unfolding out_of_range
-  out_a h = rw (lt-ltb 255 v.a h)
-
-  module _ (a : v.a ≤ 255) where
-    pub out_b : 255 < v.b → false ≡ not (out_of_range v)
-    unfolding out_of_range
-    out_b h = rw (le-ltb 255 v.a a, lt-ltb 255 v.b h)
-
-    module _ (b : v.b ≤ 255) where
-      pub out_c : 255 < v.c → false ≡ not (out_of_range v)
-      unfolding out_of_range
-      out_c h = rw (le-ltb 255 v.a a, le-ltb 255 v.b b, lt-ltb 255 v.c h)
-
-      module _ (c : v.c ≤ 255) where
-        pub out_d : 255 < v.d → false ≡ not (out_of_range v)
-        unfolding out_of_range
-        out_d h = rw (le-ltb 255 v.a a, le-ltb 255 v.b b, le-ltb 255 v.c c, lt-ltb 255 v.d h)
-
-        module _ (d : v.d ≤ 255) where
-          pub out_len : 32 < v.len → false ≡ not (out_of_range v)
-          unfolding out_of_range
-          out_len h =
-              rw (le-ltb 255 v.a a, le-ltb 255 v.b b, le-ltb 255 v.c c, le-ltb 255 v.d d, lt-ltb 32 v.len h)
-
-          module _ (len : v.len ≤ 32) where
-            pub out_no_hop : v.hop ≡ 0 → false ≡ not (out_of_range v)
-            unfolding out_of_range
-            out_no_hop h =
-                rw (
-                  le-ltb 255 v.a a,
-                  le-ltb 255 v.b b,
-                  le-ltb 255 v.c c,
-                  le-ltb 255 v.d d,
-                  le-ltb 32 v.len len,
-                  eq-eqb v.hop 0 h,
-                )
-
-            pub out_hop : (v.hop ≡ 0 → ⊥) → leb v.hop 65535 ≡ not (out_of_range v)
-            unfolding out_of_range
-            out_hop h =
-                rw (
-                  le-ltb 255 v.a a,
-                  le-ltb 255 v.b b,
-                  le-ltb 255 v.c c,
-                  le-ltb 255 v.d d,
-                  le-ltb 32 v.len len,
-                  ne_eqb v.hop 0 h,
-                )
-                (at_most_not_above v.hop 65535)
 
 no_bits : (v : Values) → host_bits v.len (address_of v) ≡ 0 → has_host_bits v ≡ false
 unfolding has_host_bits

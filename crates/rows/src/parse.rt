@@ -117,6 +117,7 @@ pub(crate) fn field_from(row: &[u8], at: usize, most: usize, mark: u8) -> Number
 }
 
 // The values are in range: octets to 255, length to 32, hop 1 to 65,535.
+#[tactic(auto, unfolding(crate::specs::Reading::out_of_range))]
 fn in_range(v: Values) -> bool
     ensures { result ≡ not (out_of_range v) }
 {

@@ -8,6 +8,7 @@ use Prim.Native.Nat.{ℕ, zero, suc, ◌+◌, ◌*◌, ◌/◌, ◌%◌, ◌≤�
 use native.Mathlib.Nat.{zero-add, add-zero, suc-add, add-suc, add_assoc}
 use native.Mathlib.Omega.{arith}
 use lib.ListN.{length, get_or, length-map}
+use Rattle.std.specs.Int.Count.{ones}
 use Rattle.ground.specs.Stretch.{stretch, counted}
 use Rattle.ground.specs.Stretch.Laws.{picked_none}
 use Rattle.ground.specs.Stretch.Count.{counted_is, counted_cut, counted_at_most}
@@ -30,7 +31,7 @@ stretch_at lo (suc n) (suc i) l = stretch_at (suc lo) n i (omega arith) ∙ rw (
 length_bases : (before : ℕ) (words : List ℕ) → length (bases_from before words) ≡ length words
 unfolding bases_from
 length_bases before [] = refl
-length_bases before (word ∷ words) = ap suc (length_bases _ words)
+length_bases before (word ∷ words) = ap suc (length_bases (before + ones word) words)
 
 -- the bases of m words of a test, the first of which has the bits from 16 * lo on
 bases_at : (p : ℕ → Bool) (m lo before i : ℕ) → i < m

@@ -5,13 +5,13 @@ use borrow.Author.Rules.{rules}
 use Rattle.lookup.proofs.lowered.Statement.{statement}
 use Rattle.lookup.proofs.lowered.Tie as tie
 
-sub-result : tie.Need-overflow-sub-result
-sub-result c = omega (arith, c.before.requires c.if1.true)
+sub-result : tie.Need-overflow_sub-result
+sub-result c = omega (arith, c.requires c.if-above.true)
 
-returns : tie.Need-returns
-returns c = rw c.if1.true
+returns : tie.Need-returns-then-above
+returns c = rw c.if-above.true
 
-returns-2 : tie.Need-returns-2
+returns-2 : tie.Need-returns-else-above
 returns-2 c = search rules
 
 pub lowered_spec : {M : Type 1} → statement M

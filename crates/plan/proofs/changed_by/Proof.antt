@@ -7,38 +7,32 @@ use Rattle.cidr.proofs.Prefix.{prefix_parts}
 use Rattle.plan.proofs.changed_by.Statement.{statement}
 use Rattle.plan.proofs.changed_by.Tie as tie
 
-returns : tie.Need-returns
-returns c = let a = c.before.before.before.args in rw (eq-eqb a.old a.new (omega arith))
+returns : tie.Need-returns-then-old-new
+returns c = let a = c.args in rw (eq-eqb a.old a.new (omega arith))
 
-network-requires : tie.Need-network-requires
+network-requires : tie.Need-network-net-requires
 network-requires c κs = search rules
 
-end-of-requires : tie.Need-end-of-requires
+end-of-requires : tie.Need-end_of-requires
 end-of-requires c κs = search rules
 
-sub-all : tie.Need-overflow-sub-all
+sub-all : tie.Need-overflow_sub-all
 sub-all c = search rules
 
-abbrev at_start : tie.After-end-of → tie.Start
-at_start p = p.before.before.before.before.before
-
-outer-size-requires : tie.Need-outer-size-requires
+outer-size-requires : tie.Need-outer_size-requires
 outer-size-requires c κs =
-    let s = at_start c in
-    (s.pre.0, omega (arith, c.before.network.ensures, (prefix_parts s.args.key s.pre.1).within))
+    (c.requires.0, omega (arith, c.network-net.ensures, (prefix_parts c.args.key c.requires.1).within))
 
-sub-result : tie.Need-overflow-sub-result
+sub-result : tie.Need-overflow_sub-result
 sub-result c =
-    let p = c.before in
-    let outer = rw p.before.network.ensures at c.outer-size.ensures in
-    omega (arith, outer, p.end_of_lem.ensures, p.before.network.ensures, (at_start p).requires.2)
+    let outer = rw c.network-net.ensures at c.outer_size.ensures in
+    omega (arith, outer, c.end_of.ensures, c.network-net.ensures, c.requires.2)
 
-returns-2 : tie.Need-returns-2
+returns-2 : tie.Need-returns
 returns-2 c =
-    let p = c.before in
-    let a = (at_start p).args in
-    let outer = rw p.before.network.ensures at c.outer-size.ensures in
-    rw (ne_eqb a.old a.new (λ e. omega arith)) (omega (arith, outer, p.end_of_lem.ensures, p.before.network.ensures))
+    let a = c.args in
+    let outer = rw c.network-net.ensures at c.outer_size.ensures in
+    rw (ne_eqb a.old a.new (λ e. omega arith)) (omega (arith, outer, c.end_of.ensures, c.network-net.ensures))
 
 pub changed_by_spec : {M : Type 1} → statement M
 changed_by_spec =

@@ -9,49 +9,44 @@ use Rattle.segment.proofs.CountingHops.{Counting, counting_start, counting_kept,
 use Rattle.segment.proofs.count_hops.Statement.{statement}
 use Rattle.segment.proofs.count_hops.Tie as tie
 
-abbrev invariant-loop : tie.invariant-loop
+abbrev invariant-loop : tie.invariant-loop-block
 invariant-loop starts rhops base size n walk₀ at₀ block₀ kept₀ walk at block kept = Counting starts rhops base size n walk at block kept
 
-abbrev decreases-loop : tie.decreases-loop
+abbrev decreases-loop : tie.decreases-loop-block
 decreases-loop starts rhops base size n walk₀ at₀ block₀ kept₀ walk at block kept = n - block
 
 -- where the walk has gone on, as the places see it that know of both hops
-abbrev walked : tie.After-struct-known2 invariant-loop decreases-loop → tie.After-walk-to invariant-loop decreases-loop
-walked c = c.before.before
+loop-holds : tie.Need-loop-block-init invariant-loop decreases-loop
+loop-holds c = let pre = c.requires in counting_start pre.0 pre.1 pre.2
 
-loop-holds : tie.Need-loop-init invariant-loop decreases-loop
-loop-holds c = let pre = c.before.before.requires in counting_start pre.0 pre.1 pre.2
+walk-to-requires : tie.Need-walk_to-next-requires invariant-loop decreases-loop
+walk-to-requires c κs = let a = c.loop-block.invariant.at_block in (a.runs, may_go_on a)
 
-walk-to-requires : tie.Need-walk-to-requires invariant-loop decreases-loop
-walk-to-requires c κs = let a = c.before.loop.invariant.at_block in (a.runs, may_go_on a)
+add_kept : tie.Need-overflow_add-kept invariant-loop decreases-loop
+add_kept c = omega (arith, few_kept c.loop-block.invariant)
 
-add_kept : tie.Need-overflow-add-kept invariant-loop decreases-loop
-add_kept c = omega (arith, few_kept (walked c.before).before.before.loop.inv)
-
-add_at : tie.Need-overflow-add-at invariant-loop decreases-loop
+add_at : tie.Need-overflow_add-at invariant-loop decreases-loop
 add_at c =
-    let turn = (walked c.before).before in
-    omega (arith, next_within turn.before.loop.inv.at_block turn.loop-test.taken)
+    omega (arith, next_within c.loop-block.invariant.at_block c.loop-block-test.true)
 
-add-block : tie.Need-overflow-add-block invariant-loop decreases-loop
+add-block : tie.Need-overflow_add-block invariant-loop decreases-loop
 add-block c = omega arith
 
-loop-less : tie.Need-loop-smaller invariant-loop decreases-loop
+loop-less : tie.Need-loop-block-smaller invariant-loop decreases-loop
 loop-less c = omega arith
 
-loop-again : tie.Need-loop-preserved invariant-loop decreases-loop
+loop-again : tie.Need-loop-block-preserved invariant-loop decreases-loop
 loop-again c =
-    let st = (walked c.before).walk-to.ensures in
-    let turn = (walked c.before).before in
-    let inv = turn.before.loop.inv in
-    let l = turn.loop-test.taken in
+    let st = c.walk_to-next.ensures in
+    let inv = c.loop-block.invariant in
+    let l = c.loop-block-test.true in
     ⊎_elim
-    (λ w. rw w.1 (counting_kept inv l st w.0.taken))
-    (λ w. rw w.1 (counting_same inv l st w.0.left))
-    c.if1.branch
+    (λ w. rw w.kept-is (counting_kept inv l st w.if-next-walk.true))
+    (λ w. rw w.kept-is (counting_same inv l st w.if-next-walk.false))
+    c.if-next-walk.branch-raw
 
 returns : tie.Need-returns invariant-loop decreases-loop
-returns c = all_counted c.before.loop.invariant c.loop-test.false
+returns c = all_counted c.loop-block.invariant c.loop-block-test.false
 
 pub count_hops_spec : {M : Type 1} → statement M
 count_hops_spec =

@@ -13,109 +13,77 @@ use Rattle.segment.proofs.pack_blocks.Tie as tie
 
 -- the start, from the first power; the words' count, from the place where the hops are counted; that place, from the first write; and the
 -- first write, from the end
-abbrev at-slices : tie.After-power → tie.After-slice-known
-at-slices c = c.before.before.before
+count_is : (c : tie.After-words_for-count) → c.words_for-count.result ≡ words_for (2 ^ c.args.width)
+count_is c = c.words_for-count.ensures ∙ ap words_for c.power-n.ensures
 
-abbrev at_start : tie.After-slice-known → tie.Start
-at_start c = c.before.before.before
-
-abbrev start : tie.After-words-for → tie.Start
-start c = at_start (at-slices c.before.before)
-
-abbrev at-words-for : tie.After-count-hops → tie.After-words-for
-at-words-for c = c.before.before.before.before
-
-abbrev at_count : tie.After-write-words → tie.After-count-hops
-at_count c = c.before.before.before.before
-
-abbrev at_words : tie.After-write-hops-arg → tie.After-write-words
-at_words c = let known = c.before.before in
-    known.before.before.before
-
--- how many blocks and words there are, and how large a block is
-count_is : (c : tie.After-words-for) → c.words-for.result ≡ words_for (2 ^ (start c).args.width)
-count_is c = c.words-for.ensures ∙ ap words_for c.before.before.power.ensures
-
-grid : (c : tie.After-words-for) → Grid (start c).args.base c.before.power2.result c.before.before.power.result
+grid : (c : tie.After-words_for-count) → Grid c.args.base c.power-size.result c.power-n.result
 grid c = record {
-  within = (start c).requires.2;
-  whole = rw (c.before.power2.ensures, c.before.before.power.ensures) (powers (start c).args.width (start c).requires.1);
+  within = c.requires.2;
+  whole = rw (c.power-size.ensures, c.power-n.ensures) (powers c.args.width c.requires.1);
 }
 
 -- where the walk starts
 first : (c : tie.After-lower)
-    → let w = c.before.before.before in
-    Before (start w).args.starts.now (start w).args.rhops.now (start w).args.base w.before.power2.result 0
+    → Before c.args.starts.now c.args.rhops.now c.args.base c.power-size.result 0
     (record { begun = c.lower.result; hop = 65536 })
 first c =
-    let w = c.before.before.before in
-    walk_start _ _ (start w).requires.0 (c.lower.ensures (start w).requires.0.ascend) refl
+    walk_start _ _ c.requires.0 (c.lower.ensures c.requires.0.ascend) refl
 
-power-requires : tie.Need-power-requires
+power-requires : tie.Need-power-n-requires
 power-requires c κs = search rules
 
-sub-power : tie.Need-overflow-sub-power
+sub-power : tie.Need-overflow_sub-width
 sub-power c = search rules
 
-power-requires-2 : tie.Need-power-requires-2
+power-requires-2 : tie.Need-power-size-requires
 power-requires-2 c κs = search rules
 
-words-for-requires : tie.Need-words-for-requires
-words-for-requires c κs = rw c.before.power.ensures (power_most _ (at_start (at-slices c.before)).requires.1)
+words-for-requires : tie.Need-words_for-count-requires
+words-for-requires c κs = rw c.power-n.ensures (power_most _ c.requires.1)
 
-returns : tie.Need-returns
+returns : tie.Need-returns-then-words-count
 returns c = words_short _ _ _ (omega (arith, count_is c.before))
 
-returns-2 : tie.Need-returns-2
+returns-2 : tie.Need-returns-then-bases-count
 returns-2 c = bases_short _ _ _ (omega (arith, count_is c.before.before)) (omega (arith, count_is c.before.before))
 
-add-lower : tie.Need-overflow-add-lower
+add-lower : tie.Need-overflow_add-base
 add-lower c = search rules
 
 lower-requires : tie.Need-lower-requires
 lower-requires c κs = search rules
 
-count-hops-requires : tie.Need-count-hops-requires
+count-hops-requires : tie.Need-count_hops-kept-requires
 count-hops-requires c κs =
-    let w = c.before.before.before in
-    ((start w).requires.0, grid w, first c)
+    (c.requires.0, grid c.before.before.before, first c)
 
-returns-3 : tie.Need-returns-3
+returns-3 : tie.Need-returns-then-out-kept
 returns-3 c =
-    let w = at-words-for c.before in
-    kept_short _ _ _ _ _ w.before.power2.ensures w.before.before.power.ensures (omega (arith, w.words-for.ensures))
-    (omega (arith, w.words-for.ensures)) (omega (arith, c.before.count-hops.ensures))
+    kept_short _ _ _ _ _ c.power-size.ensures c.power-n.ensures (omega (arith, c.words_for-count.ensures))
+    (omega (arith, c.words_for-count.ensures)) (omega (arith, c.count_hops-kept.ensures))
 
-write-words-requires : tie.Need-write-words-requires
+write-words-requires : tie.Need-write_words-requires
 write-words-requires c κs =
-    let h = c.before.before.before in
-    let w = at-words-for h in
-    ((start w).pre.0, grid w, first h.before, omega (arith, w.words-for.ensures), omega (arith, w.words-for.ensures))
+    (c.requires.0, grid c.before.before.before.before.before.before.before, first c.before.before.before.before, omega (arith, c.words_for-count.ensures), omega (arith, c.words_for-count.ensures))
 
-write-hops-requires : tie.Need-write-hops-requires
+write-hops-requires : tie.Need-write_hops-requires
 write-hops-requires c κs =
-    let h = at_count (at_words c) in
-    let w = at-words-for h in
-    ((start w).pre.0, grid w, first h.before, omega (arith, h.count-hops.ensures))
+    (c.requires.0, grid c.before.before.before.before.before.before.before.before.before.before.before.before.before, first c.before.before.before.before.before.before.before.before.before.before, omega (arith, c.count_hops-kept.ensures))
 
-same_length : tie.Need-same-length
+same_length : tie.Need-shape_of-words
 same_length c = search rules
 
-same-length-2 : tie.Need-same-length-2
+same-length-2 : tie.Need-shape_of-bases
 same-length-2 c = search rules
 
-same-length-3 : tie.Need-same-length-3
+same-length-3 : tie.Need-shape_of-out
 same-length-3 c = search rules
 
-returns-4 : tie.Need-returns-4
+returns-4 : tie.Need-returns
 returns-4 c =
-    let last = c.before.before in
-    let words = at_words last.before in
-    let h = at_count words in
-    let w = at-words-for h in
-    blocks_written _ _ _ _ _ w.before.power2.ensures w.before.before.power.ensures (omega (arith, w.words-for.ensures))
-    (omega (arith, w.words-for.ensures)) w.words-for.ensures h.count-hops.ensures (omega arith) words.write-words.ensures.0
-    words.write-words.ensures.1 last.write-hops.ensures
+    blocks_written _ _ _ _ _ c.power-size.ensures c.power-n.ensures (omega (arith, c.words_for-count.ensures))
+    (omega (arith, c.words_for-count.ensures)) c.words_for-count.ensures c.count_hops-kept.ensures (omega arith) c.write_words.ensures.0
+    c.write_words.ensures.1 c.write_hops.ensures
 
 pub pack_blocks_spec : {M : Type 1} → statement M
 pack_blocks_spec =

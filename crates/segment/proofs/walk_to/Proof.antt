@@ -9,32 +9,28 @@ use Rattle.segment.proofs.walk_to.Statement.{statement}
 use Rattle.segment.proofs.walk_to.Tie as tie
 
 -- the function's start, as the places after the runs were counted see it
-abbrev start : tie.After-begun-at → tie.Start
-start c = c.before.before.before
-
-begun-at-requires : tie.Need-begun-at-requires
+begun-at-requires : tie.Need-begun_at-begun-requires
 begun-at-requires c κs = search rules
 
-sub-t6 : tie.Need-overflow-sub-t6
+sub-t6 : tie.Need-overflow_sub-result
 sub-t6 c = search rules
 
-mul-t7 : tie.Need-overflow-mul-t7
-mul-t7 c = omega (arith, c.begun-at.ensures, begun_within (start c).requires.0 (start c).args.at)
+mul-t7 : tie.Need-offset_bounds-rhops-begun
+mul-t7 c = omega (arith, c.begun_at-begun.ensures, begun_within c.requires.0 c.args.at)
 
-shared-slice-read-t9 : tie.Need-shared-slice-read-t9
+shared-slice-read-t9 : tie.Need-bounds-rhops-begun
 shared-slice-read-t9 c =
-    let p = start c.before in
-    omega (arith, c.before.begun-at.ensures, begun_within p.pre.0 p.args.at, some_begun p.pre.0 p.args.at)
+    omega (arith, c.begun_at-begun.ensures, begun_within c.requires.0 c.args.at, some_begun c.requires.0 c.args.at)
 
-cast-t10 : tie.Need-overflow-cast-t10
-cast-t10 c = omega (arith, c.shared-slice-known3.given (c.before.begun-at.result - 1))
+cast-t10 : tie.Need-overflow_cast-result
+cast-t10 c = omega (arith, c.shared_slice_known-3-1.given (c.begun_at-begun.result - 1))
 
 returns : tie.Need-returns
 unfolding hop_at
 returns c = record {
-  begun_is = c.before.begun-at.ensures;
-  hop_is = rw c.before.begun-at.ensures;
-  hop_small = omega (arith, c.shared-slice-known3.given (c.before.begun-at.result - 1));
+  begun_is = c.begun_at-begun.ensures;
+  hop_is = rw c.begun_at-begun.ensures;
+  hop_small = omega (arith, c.shared_slice_known-3-1.given (c.begun_at-begun.result - 1));
 }
 
 pub walk_to_spec : {M : Type 1} → statement M

@@ -10,74 +10,64 @@ use Rattle.segment.proofs.WordMaking.{Making, making_start, making_asks, making_
 use Rattle.segment.proofs.word_at.Statement.{statement}
 use Rattle.segment.proofs.word_at.Tie as tie
 
-abbrev invariant-loop : tie.invariant-loop
+abbrev invariant-loop : tie.invariant-loop-seen
 invariant-loop starts rhops base size n first word₀ walk₀ at₀ seen₀ word walk at seen =
     Making starts rhops base size n first word walk at seen
 
-abbrev decreases-loop : tie.decreases-loop
+abbrev decreases-loop : tie.decreases-loop-seen
 decreases-loop starts rhops base size n first word₀ walk₀ at₀ seen₀ word walk at seen = 16 - seen
 
 -- the call, before the loop and at a turn of it
-abbrev called : tie.After-shared-slice-known2 invariant-loop decreases-loop → tie.Start invariant-loop decreases-loop
-called c = c.before.before
+mul_at : tie.Need-overflow_mul-at invariant-loop decreases-loop
+mul_at c = omega (arith, block_ends c.requires.1 c.args.first c.requires.3)
 
-abbrev start : tie.In-loop invariant-loop decreases-loop → tie.Start invariant-loop decreases-loop
-start c = called c.before.before
+add_at : tie.Need-overflow_add-at invariant-loop decreases-loop
+add_at c = omega (arith, block_ends c.requires.1 c.args.first c.requires.3)
 
-mul_at : tie.Need-overflow-mul-at invariant-loop decreases-loop
-mul_at c = omega (arith, block_ends (called c).requires.1 (called c).args.first (called c).requires.3)
+loop-holds : tie.Need-loop-seen-init invariant-loop decreases-loop
+loop-holds c = making_start c.requires.3 c.requires.2
 
-add_at : tie.Need-overflow-add-at invariant-loop decreases-loop
-add_at c = omega (arith, block_ends (called c).requires.1 (called c).args.first (called c).requires.3)
+add-if1 : tie.Need-overflow_add-first invariant-loop decreases-loop
+add-if1 c = omega (arith, few_blocks c.requires.1)
 
-loop-holds : tie.Need-loop-init invariant-loop decreases-loop
-loop-holds c = making_start (called c).requires.3 (called c).requires.2
-
-add-if1 : tie.Need-overflow-add-if1 invariant-loop decreases-loop
-add-if1 c = omega (arith, few_blocks (start c).requires.1)
-
-walk-to-requires : tie.Need-walk-to-requires invariant-loop decreases-loop
+walk-to-requires : tie.Need-walk_to-next-requires invariant-loop decreases-loop
 walk-to-requires c κs =
-    let turn = c.before in
-    ((start turn).requires.0, making_asks turn.before.loop.invariant c.if1.true)
+    (c.requires.0, making_asks c.loop-seen.invariant c.if-first-seen.true)
 
-mul-word : tie.Need-overflow-mul-word invariant-loop decreases-loop
+mul-word : tie.Need-overflow_mul-word invariant-loop decreases-loop
 mul-word c =
-    let turn = c.before.before in
-    omega (arith, bit_fits turn.before.loop.invariant turn.loop-test.true)
+    omega (arith, bit_fits c.loop-seen.invariant c.loop-seen-test.true)
 
-bit-of-requires : tie.Need-bit-of-requires invariant-loop decreases-loop
+bit-of-requires : tie.Need-bit_of-requires invariant-loop decreases-loop
 bit-of-requires c κs = search rules
 
-add-word : tie.Need-overflow-add-word invariant-loop decreases-loop
+add-word : tie.Need-overflow_add-word invariant-loop decreases-loop
 add-word c =
-    let turn = c.before.before.before in
-    omega (arith, c.bit-of.ensures.1, bit_fits turn.before.loop.invariant turn.loop-test.true)
+    omega (arith, c.bit_of.ensures.1, bit_fits c.loop-seen.invariant c.loop-seen-test.true)
 
-add-at-2 : tie.Need-overflow-add-at-2 invariant-loop decreases-loop
+add-at-2 : tie.Need-overflow_add-at-then-first-seen invariant-loop decreases-loop
 add-at-2 c =
-    let block = c.before.before in
-    omega (arith, at_fits block.before.before.loop.invariant block.if1.true (start block.before).pre.1)
+    omega (arith, at_fits c.loop-seen.invariant c.if-first-seen.true c.requires.1)
 
-mul-word-2 : tie.Need-overflow-mul-word-2 invariant-loop decreases-loop
-mul-word-2 c = omega (arith, bit_fits c.before.before.loop.invariant c.before.loop-test.true)
+mul-word-2 : tie.Need-overflow_mul-word-else-first-seen invariant-loop decreases-loop
+mul-word-2 c = omega (arith, bit_fits c.loop-seen.invariant c.loop-seen-test.true)
 
-add-seen : tie.Need-overflow-add-seen invariant-loop decreases-loop
+add-seen : tie.Need-overflow_add-seen invariant-loop decreases-loop
 add-seen c = omega arith
 
-loop-less : tie.Need-loop-smaller invariant-loop decreases-loop
+loop-less : tie.Need-loop-seen-smaller invariant-loop decreases-loop
 loop-less c = omega arith
 
-loop-again : tie.Need-loop-preserved invariant-loop decreases-loop
+loop-again : tie.Need-loop-seen-preserved invariant-loop decreases-loop
 loop-again c = ⊎_elim
-    (λ w. rw (w.3, w.4, w.5)
-    (making_block c.before.before.loop.invariant c.before.loop-test.true (start c.before).pre.0 w.0.taken w.1.ensures
-    w.2.ensures.0))
-    (λ w. rw (w.1, w.2, w.3) (making_none c.before.before.loop.invariant c.before.loop-test.true w.0.left))
-    c.if1.branch
+    (λ w. rw (w.word-is, w.walk-is, w.at-is)
+    (making_block c.loop-seen.invariant c.loop-seen-test.true c.requires.0 w.if-first-seen.true w.walk_to-next.ensures
+    w.bit_of.ensures.0))
+    (λ w. rw (w.word-is, w.walk-is, w.at-is) (making_none c.loop-seen.invariant c.loop-seen-test.true w.if-first-seen.false))
+    c.if-first-seen.branch-raw
 
 returns : tie.Need-returns invariant-loop decreases-loop
-returns c = making_done c.before.loop.invariant (omega arith)
+returns c = making_done c.loop-seen.invariant (omega arith)
 
 pub word_at_spec : {M : Type 1} → statement M
 word_at_spec =

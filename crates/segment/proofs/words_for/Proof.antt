@@ -5,7 +5,7 @@ use borrow.Author.Rules.{rules}
 use Rattle.segment.proofs.words_for.Statement.{statement}
 use Rattle.segment.proofs.words_for.Tie as tie
 
-add-result : tie.Need-overflow-add-result
+add-result : tie.Need-overflow_add-result
 add-result c = search rules
 
 returns : tie.Need-returns

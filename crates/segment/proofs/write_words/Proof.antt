@@ -12,84 +12,73 @@ use Rattle.segment.proofs.WordsWriting.{Writing, writing_start, word_fits, base_
 use Rattle.segment.proofs.write_words.Statement.{statement}
 use Rattle.segment.proofs.write_words.Tie as tie
 
-abbrev invariant-loop : tie.invariant-loop
+abbrev invariant-loop : tie.invariant-loop-first
 invariant-loop starts rhops base size n words₀ bases₀ walk₀ first₀ j₀ ones₀ words bases walk first j ones =
     Writing (hop_in starts rhops base size) n first j ones words₀ bases₀ words bases × Before starts rhops base size (min first n) walk
 
-abbrev decreases-loop : tie.decreases-loop
+abbrev decreases-loop : tie.decreases-loop-first
 decreases-loop starts rhops base size n words₀ bases₀ walk₀ first₀ j₀ ones₀ words bases walk first j ones = n - first
 
 -- the call, before the loop and at a turn of it, and the turn, where the word is made and where the walk has gone on
-abbrev called : tie.After-slice-known2 invariant-loop decreases-loop → tie.Start invariant-loop decreases-loop
-called c = let slices = c.before.before in slices.before.before
-
-abbrev start : tie.In-loop invariant-loop decreases-loop → tie.Start invariant-loop decreases-loop
-start c = called c.before.before
-
-abbrev turn : tie.After-walk invariant-loop decreases-loop → tie.In-loop invariant-loop decreases-loop
-turn c = let made = c.before.before in made.before
-
-loop-holds : tie.Need-loop-init invariant-loop decreases-loop
+loop-holds : tie.Need-loop-first-init invariant-loop decreases-loop
 loop-holds c =
-    let pre = (called c).requires in
-    let none : min 0 (called c).args.n ≡ 0 = omega arith in
+    let pre = c.requires in
+    let none : min 0 c.args.n ≡ 0 = omega arith in
     (writing_start (few_blocks pre.1) pre.3 pre.4, rw none pre.2)
 
-word-at-requires : tie.Need-word-at-requires invariant-loop decreases-loop
+word-at-requires : tie.Need-word_at-made-requires invariant-loop decreases-loop
 word-at-requires c κs =
-    let l = c.before.loop in
-    let more = c.loop-test.true in
-    let here : min l.first (start c).args.n ≡ l.first = omega arith in
-    ((start c).requires.0, (start c).requires.1, rw here at l.invariant.1, more)
+    let l = c.loop-first in
+    let more = c.loop-first-test.true in
+    let here : min l.first c.args.n ≡ l.first = omega arith in
+    (c.requires.0, c.requires.1, rw here at l.invariant.1, more)
 
-mul_words : tie.Need-overflow-mul-words invariant-loop decreases-loop
-mul_words c = let w = c.before.before.loop.invariant.0 in omega (arith, w.few, w.first_is)
+mul_words : tie.Need-offset_bounds-words-j invariant-loop decreases-loop
+mul_words c = let w = c.loop-first.invariant.0 in omega (arith, w.few, w.first_is)
 
-slice-write-words : tie.Need-slice-write-words invariant-loop decreases-loop
-slice-write-words c = word_fits c.before.before.loop.invariant.0 c.before.loop-test.true
+slice-write-words : tie.Need-bounds-words-j invariant-loop decreases-loop
+slice-write-words c = word_fits c.loop-first.invariant.0 c.loop-first-test.true
 
-cast-bases : tie.Need-overflow-cast-bases invariant-loop decreases-loop
-cast-bases c = omega (arith, before_fits c.before.before.loop.invariant.0 c.before.loop-test.true)
+cast-bases : tie.Need-overflow_cast-bases invariant-loop decreases-loop
+cast-bases c = omega (arith, before_fits c.loop-first.invariant.0 c.loop-first-test.true)
 
-mul-bases : tie.Need-overflow-mul-bases invariant-loop decreases-loop
-mul-bases c = let w = c.before.before.loop.invariant.0 in omega (arith, w.few, w.first_is)
+mul-bases : tie.Need-offset_bounds-bases-j invariant-loop decreases-loop
+mul-bases c = let w = c.loop-first.invariant.0 in omega (arith, w.few, w.first_is)
 
-slice-write-bases : tie.Need-slice-write-bases invariant-loop decreases-loop
-slice-write-bases c = base_fits c.before.before.loop.invariant.0 c.before.loop-test.true
+slice-write-bases : tie.Need-bounds-bases-j invariant-loop decreases-loop
+slice-write-bases c = base_fits c.loop-first.invariant.0 c.loop-first-test.true
 
-ones-of-requires : tie.Need-ones-of-requires invariant-loop decreases-loop
+ones-of-requires : tie.Need-ones_of-ones-requires invariant-loop decreases-loop
 ones-of-requires c κs = search rules
 
-add-ones : tie.Need-overflow-add-ones invariant-loop decreases-loop
+add-ones : tie.Need-overflow_add-ones invariant-loop decreases-loop
 add-ones c =
-    let here = c.before.before in
-    omega (arith, c.ones-of.ensures.1, before_fits here.before.loop.invariant.0 here.loop-test.true)
+    omega (arith, c.ones_of-ones.ensures.1, before_fits c.loop-first.invariant.0 c.loop-first-test.true)
 
-add-j : tie.Need-overflow-add-j invariant-loop decreases-loop
-add-j c = let w = (turn c).before.loop.invariant.0 in omega (arith, w.few, w.first_is)
+add-j : tie.Need-overflow_add-j invariant-loop decreases-loop
+add-j c = let w = c.loop-first.invariant.0 in omega (arith, w.few, w.first_is)
 
-add-first : tie.Need-overflow-add-first invariant-loop decreases-loop
-add-first c = omega (arith, (turn c).before.loop.invariant.0.few)
+add-first : tie.Need-overflow_add-first invariant-loop decreases-loop
+add-first c = omega (arith, c.loop-first.invariant.0.few)
 
-loop-less : tie.Need-loop-smaller invariant-loop decreases-loop
+loop-less : tie.Need-loop-first-smaller invariant-loop decreases-loop
 loop-less c = omega arith
 
-loop-again : tie.Need-loop-preserved invariant-loop decreases-loop
+loop-again : tie.Need-loop-first-preserved invariant-loop decreases-loop
 loop-again c =
-    let here = turn c in
-    let made = c.before.before.word_at.ensures in
-    (writing_on here.before.loop.inv.0 here.loop-test.taken made.word_is c.before.ones-of.ensures.0, made.next)
+    let made = c.word_at-made.ensures in
+    (writing_on c.loop-first.invariant.0 c.loop-first-test.true made.word_is c.ones_of-ones.ensures.0, made.next)
 
-same_length : tie.Need-same-length invariant-loop decreases-loop
-same_length c = c.before.loop.invariant.0.as_long
+same_length : tie.Need-shape_of-words invariant-loop decreases-loop
+same_length c = c.loop-first.invariant.0.as_long
 
-same-length-2 : tie.Need-same-length-2 invariant-loop decreases-loop
-same-length-2 c = c.before.loop.invariant.0.bases_as_long
+same-length-2 : tie.Need-shape_of-bases invariant-loop decreases-loop
+same-length-2 c = c.loop-first.invariant.0.bases_as_long
 
 returns : tie.Need-returns invariant-loop decreases-loop
 returns c =
-    let w = c.before.loop.invariant.0 in
-    let past = c.loop-test.false in
+    let w = c.loop-first.invariant.0 in
+    let past = c.loop-first-test.false in
     (all_words w past, all_bases w past)
 
 pub write_words_spec : {M : Type 1} → statement M

@@ -34,52 +34,36 @@ fits : (c : tie.Start) → let s = c.args in
     Fits s.at (number_text (s.a / 16777216) 46 ++ second s.a s.mark) s.out.now
 fits c = record { room = omega (arith, c.requires.room, ap length (octets c.args.a c.args.mark)) }
 
-abbrev at_1 : tie.After-number → tie.Start
-at_1 c = c.before.before.before
+fits_2 : (c : tie.After-number-b) → Fits c.number-b.result (second c.args.a c.args.mark) c.number-b.new.out
+fits_2 c = rest_fits _ (fits c.before.before.before) c.number-b.ensures
 
-abbrev at-2 : tie.After-number2 → tie.After-number
-at-2 c = c.before.before.before.before
+fits_3 : (c : tie.After-number-c) → let s = c.args in Fits c.number-c.result (third s.a s.mark) c.number-c.new.out
+fits_3 c = rest_fits _ (fits_2 c.before.before.before.before) c.number-c.ensures
 
-abbrev at-3 : tie.After-number3 → tie.After-number2
-at-3 c = c.before.before.before.before
+fits_4 : (c : tie.After-number-d) → let s = c.args in
+    Fits c.number-d.result (fourth s.a s.mark) c.number-d.new.out
+fits_4 c = rest_fits _ (fits_3 c.before.before.before.before) c.number-d.ensures
 
-abbrev at-4 : tie.After-number4 → tie.After-number3
-at-4 c = c.before.before.before.before
-
-fits_2 : (c : tie.After-number) → Fits c.number.result (second (at_1 c).args.a (at_1 c).args.mark) c.number.new.0
-fits_2 c = rest_fits _ (fits (at_1 c)) c.number.ensures
-
-fits_3 : (c : tie.After-number2) → let s = (at_1 (at-2 c)).args in Fits c.number2.result (third s.a s.mark) c.number2.new.0
-fits_3 c = rest_fits _ (fits_2 (at-2 c)) c.number2.ensures
-
-fits_4 : (c : tie.After-number3) → let s = (at_1 (at-2 (at-3 c))).args in
-    Fits c.number3.result (fourth s.a s.mark) c.number3.new.0
-fits_4 c = rest_fits _ (fits_3 (at-3 c)) c.number3.ensures
-
-number-requires : tie.Need-number-requires
+number-requires : tie.Need-number-b-requires
 number-requires c κs = first_fits _ (fits c.before.before)
 
-number-requires-2 : tie.Need-number-requires-2
+number-requires-2 : tie.Need-number-c-requires
 number-requires-2 c κs = first_fits _ (fits_2 c.before.before.before)
 
-number-requires-3 : tie.Need-number-requires-3
+number-requires-3 : tie.Need-number-d-requires
 number-requires-3 c κs = first_fits _ (fits_3 c.before.before.before)
 
-number-requires-4 : tie.Need-number-requires-4
+number-requires-4 : tie.Need-number-requires
 number-requires-4 c κs = fits_4 c.before.before.before
 
-same_length : tie.Need-same-length
+same_length : tie.Need-shape_of-out
 same_length c = search rules
 
 returns : tie.Need-returns
 returns c =
-    let c4 = c.before.before in
-    let c3 = at-4 c4 in
-    let c2 = at-3 c3 in
-    let c1 = at-2 c2 in
-    rw (octets (at_1 c1).args.a (at_1 c1).args.mark)
-    (put_then _ (fits (at_1 c1)) c1.number.ensures
-    (put_then _ (fits_2 c1) c2.number2.ensures (put_then _ (fits_3 c2) c3.number3.ensures c4.number4.ensures)))
+    rw (octets c.args.a c.args.mark)
+    (put_then _ (fits c.before.before.before.before.before.before.before.before.before.before.before.before.before.before.before.before.before) c.number-b.ensures
+    (put_then _ (fits_2 c.before.before.before.before.before.before.before.before.before.before.before.before.before.before) c.number-c.ensures (put_then _ (fits_3 c.before.before.before.before.before.before.before.before.before.before) c.number-d.ensures c.number.ensures)))
 
 pub address_spec : {M : Type 1} → statement M
 address_spec =

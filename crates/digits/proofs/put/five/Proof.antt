@@ -23,57 +23,51 @@ two_more n l =
 short-requires : tie.Need-short-requires
 short-requires c κs = search rules
 
-same_length : tie.Need-same-length
+same_length : tie.Need-shape_of-out-then-n-lt1000
 same_length c = search rules
 
-returns : tie.Need-returns
+returns : tie.Need-returns-then-n-lt1000
 returns c = search rules
 
-short-requires-2 : tie.Need-short-requires-2
-short-requires-2 c κs = let st = c.before.before.before in (omega arith, omega (arith, st.requires.1, two_more st.args.n (omega arith)))
+short-requires-2 : tie.Need-short-at-requires
+short-requires-2 c κs = (omega arith, omega (arith, c.requires.1, two_more c.args.n (omega arith)))
 
 digit-requires : tie.Need-digit-requires
 digit-requires c κs = search rules
 
 -- there is room for the two
-abbrev start : tie.After-short2 → tie.Start
-start c = c.before.before.before.before
-
-room : (c : tie.After-short2) → 1000 ≤ (start c).args.n → c.short2.result + 2 ≤ length c.short2.new.0
+room : (c : tie.After-short-at) → 1000 ≤ c.args.n → c.short-at.result + 2 ≤ length c.short-at.new.out
 room c l =
-    let st = start c in
-    let more = two_more st.args.n l in
-    omega (arith, st.pre.1, c.short2.ensures.bytes, wrote_long c.short2.ensures (omega (arith, st.pre.1)))
+    let more = two_more c.args.n l in
+    omega (arith, c.requires.1, c.short-at.ensures.bytes, wrote_long c.short-at.ensures (omega (arith, c.requires.1)))
 
-slice-write-out : tie.Need-slice-write-out
+slice-write-out : tie.Need-bounds-out-at
 slice-write-out c = omega (arith, room c.before.before.before (omega arith))
 
 digit-requires-2 : tie.Need-digit-requires-2
 digit-requires-2 c κs = search rules
 
-add-out : tie.Need-overflow-add-out
+add-out : tie.Need-overflow_add-out
 add-out c = omega (arith, room c.before.before.before.before (omega arith))
 
-slice-write-out-2 : tie.Need-slice-write-out-2
+slice-write-out-2 : tie.Need-bounds-out-at-2
 slice-write-out-2 c = simp length-set (omega (arith, room c.before.before.before.before (omega arith)))
 
-add-result : tie.Need-overflow-add-result
+add-result : tie.Need-overflow_add-result
 add-result c = omega (arith, room c.before.before.before.before (omega arith))
 
-same-length-2 : tie.Need-same-length-2
+same-length-2 : tie.Need-shape_of-out
 same-length-2 c = search rules
 
-returns-2 : tie.Need-returns-2
+returns-2 : tie.Need-returns
 returns-2 c =
-    let called = c.before.before.before.before in
-    let st = start called in
-    let n = st.args.n in
-    let at = called.short2.result in
+    let n = c.args.n in
+    let at = c.short-at.result in
     let two : at + 1 + 1 ≡ at + 2 = omega arith in
-    let tenth : Wrote (decimal (n / 10 / 10)) at st.args.out.now called.short2.new.0 = rw (hundredth n) called.short2.ensures in
+    let tenth : Wrote (decimal (n / 10 / 10)) at c.args.out.now c.short-at.new.out = rw (hundredth n) c.short-at.ensures in
     rw two at
-    (wrote_digit n (omega arith) st.pre.1 c.digit2.ensures
-    (wrote_digit (n / 10) (omega arith) (omega (arith, st.pre.1, digits_step n (omega arith))) c.before.digit.ensures tenth))
+    (wrote_digit n (omega arith) c.requires.1 c.digit-2.ensures
+    (wrote_digit (n / 10) (omega arith) (omega (arith, c.requires.1, digits_step n (omega arith))) c.digit.ensures tenth))
 
 pub five_spec : {M : Type 1} → statement M
 five_spec =

@@ -16,42 +16,38 @@ use Rattle.digits.proofs.put.number.Reads as reads
 use Rattle.digits.proofs.put.number.Lts as lts
 use Rattle.digits.proofs.put.decimal.Reads as decimal-reads
 
-sub-decimal : tie.Need-overflow-sub-decimal
+sub-decimal : tie.Need-slice_bounds-decimal-count
 sub-decimal c = search rules
 
-part-decimal-start : tie.Need-slice-bounds-decimal-start
+part-decimal-start : tie.Need-slice_bounds-decimal-start
 part-decimal-start c = search rules
 
-part-decimal-end : tie.Need-slice-bounds-decimal-end
+part-decimal-end : tie.Need-slice_bounds-decimal-end
 part-decimal-end c = search rules
 
 decimal-requires : tie.Need-decimal-requires
 decimal-requires c κs =
-    let st = c.before.before in
-    simp (length-take, length-drop) (omega (arith, st.requires.room, length-append (decimal st.args.n) (st.args.mark ∷ [])))
+    simp (length-take, length-drop) (omega (arith, c.requires.room, length-append (decimal c.args.n) (c.args.mark ∷ [])))
 
 -- the digits stand at the place, and there is room for one byte more
-abbrev start : tie.After-slice-known2 → tie.Start
-start c = c.before.before.before.before.before
+room : (c : tie.After-slice_known-2-1) → c.args.at + length (decimal c.args.n) < length c.args.out.now
+room c = omega (arith, c.requires.room, length-append (decimal c.args.n) (c.args.mark ∷ []))
 
-room : (c : tie.After-slice-known2) → (start c).args.at + length (decimal (start c).args.n) < length (start c).args.out.now
-room c = omega (arith, (start c).requires.room, length-append (decimal (start c).args.n) ((start c).args.mark ∷ []))
+digits_put : (c : tie.After-slice_known-2-1) → let at = c.args.at in let out = c.args.out.now in
+    Put at (decimal c.args.n) (at + c.decimal.result) out
+    (put_mid at (length out - at) out c.decimal.new.out)
+digits_put c = put_rest (omega (arith, room c)) refl c.decimal.ensures
 
-digits_put : (c : tie.After-slice-known2) → let st = start c in let at = st.args.at in let out = st.args.out.now in
-    Put at (decimal st.args.n) (at + c.before.before.decimal.result) out
-    (put_mid at (length out - at) out c.before.before.decimal.new.0)
-digits_put c = put_rest (omega (arith, room c)) refl c.before.before.decimal.ensures
-
-add-after : tie.Need-overflow-add-after
+add-after : tie.Need-overflow_add-after
 add-after c = omega (arith, room c, (digits_put c).after)
 
-slice-write-out : tie.Need-slice-write-out
+slice-write-out : tie.Need-bounds-out-after
 slice-write-out c = omega (arith, room c, (digits_put c).after, put_long (digits_put c) (omega (arith, room c)))
 
-add-result : tie.Need-overflow-add-result
+add-result : tie.Need-overflow_add-result
 add-result c = omega (arith, room c, (digits_put c).after)
 
-same_length : tie.Need-same-length
+same_length : tie.Need-shape_of-out
 same_length c = search rules
 
 returns : tie.Need-returns

@@ -25,37 +25,28 @@ parts key hop = simp append_assoc
 fits : (c : tie.Start) → Fits c.args.at (address_text (c.args.key / 64) 47 ++ second c.args.key c.args.hop) c.args.out.now
 fits c = record { room = omega (arith, c.requires.room, ap length (parts c.args.key c.args.hop)) }
 
-abbrev at_1 : tie.After-address → tie.Start
-at_1 c = c.before.before.before
+fits_2 : (c : tie.After-address-len) → Fits c.address-len.result (second c.args.key c.args.hop) c.address-len.new.out
+fits_2 c = rest_fits _ (fits c.before.before.before) c.address-len.ensures
 
-abbrev at-2 : tie.After-number → tie.After-address
-at-2 c = c.before.before.before.before
+fits_3 : (c : tie.After-number-last) → Fits c.number-last.result (number_text c.args.hop 10) c.number-last.new.out
+fits_3 c = rest_fits _ (fits_2 c.before.before.before.before) c.number-last.ensures
 
-fits_2 : (c : tie.After-address) → Fits c.address.result (second (at_1 c).args.key (at_1 c).args.hop) c.address.new.0
-fits_2 c = rest_fits _ (fits (at_1 c)) c.address.ensures
-
-fits_3 : (c : tie.After-number) → Fits c.number.result (number_text (at_1 (at-2 c)).args.hop 10) c.number.new.0
-fits_3 c = rest_fits _ (fits_2 (at-2 c)) c.number.ensures
-
-address-requires : tie.Need-address-requires
+address-requires : tie.Need-address-len-requires
 address-requires c κs = first_fits _ (fits c.before.before)
 
-number-requires : tie.Need-number-requires
+number-requires : tie.Need-number-last-requires
 number-requires c κs = first_fits _ (fits_2 c.before.before.before)
 
-number-requires-2 : tie.Need-number-requires-2
+number-requires-2 : tie.Need-number-requires
 number-requires-2 c κs = fits_3 c.before.before.before
 
-same_length : tie.Need-same-length
+same_length : tie.Need-shape_of-out
 same_length c = search rules
 
 returns : tie.Need-returns
 returns c =
-    let c3 = c.before.before in
-    let c2 = c3.before.before.before.before in
-    let c1 = at-2 c2 in
-    rw (parts (at_1 c1).args.key (at_1 c1).args.hop)
-    (put_then _ (fits (at_1 c1)) c1.address.ensures (put_then _ (fits_2 c1) c2.number.ensures c3.number2.ensures))
+    rw (parts c.args.key c.args.hop)
+    (put_then _ (fits c.before.before.before.before.before.before.before.before.before.before.before.before.before) c.address-len.ensures (put_then _ (fits_2 c.before.before.before.before.before.before.before.before.before.before) c.number-last.ensures c.number.ensures))
 
 pub row_spec : {M : Type 1} → statement M
 row_spec =

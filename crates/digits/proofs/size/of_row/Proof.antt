@@ -6,26 +6,26 @@ use borrow.Author.Rules.{rules}
 use Rattle.digits.proofs.size.of_row.Statement.{statement}
 use Rattle.digits.proofs.size.of_row.Tie as tie
 
-of-address-requires : tie.Need-of-address-requires
+of-address-requires : tie.Need-of_address-requires
 of-address-requires c κs = search rules
 
-of-number-requires : tie.Need-of-number-requires
+of-number-requires : tie.Need-of_number-requires
 of-number-requires c κs = search rules
 
-add-result : tie.Need-overflow-add-result
+add-result : tie.Need-overflow_add-result
 add-result c = search rules
 
-of-number-requires-2 : tie.Need-of-number-requires-2
+of-number-requires-2 : tie.Need-of_number-requires-2
 of-number-requires-2 c κs = search rules
 
-add-result-2 : tie.Need-overflow-add-result-2
+add-result-2 : tie.Need-overflow_add-result-2
 add-result-2 c = search rules
 
-add-result-3 : tie.Need-overflow-add-result-3
+add-result-3 : tie.Need-overflow_add-result-3
 add-result-3 c = search rules
 
 returns : tie.Need-returns
-returns c = (omega (arith, length_row c.before.before.before.args.key c.before.before.before.args.hop), omega arith)
+returns c = (omega (arith, length_row c.args.key c.args.hop), omega arith)
 
 pub of_row_spec : {M : Type 1} → statement M
 of_row_spec =

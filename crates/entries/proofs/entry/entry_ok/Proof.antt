@@ -4,7 +4,6 @@ use mathlib.Core.Path.{◌≡◌, sym, ap, ◌∙◌}
 use mathlib.Core.Bool.{true}
 use native.Mathlib.Omega.{arith}
 use borrow.Author.Rules.{rules}
-use borrow.Author.Tests.{not-true, not-false}
 use Rattle.cidr.specs.Prefix.{length_of, is_prefix}
 use Rattle.entries.specs.Clue.{clue_of, hop_around}
 use Rattle.entries.proofs.Rows.{all_rows}
@@ -22,44 +21,33 @@ returns c = not_a_key _ _ _ _ (sym c.is_prefix.ensures ∙ c.if-not-is_prefix.tr
 network-requires : tie.Need-network-requires
 network-requires c κs = search rules
 
--- the function's start, where the key is known to be a prefix
-abbrev at_start : tie.Else-not-is_prefix → tie.Start
-at_start c = c.before.before.before.before
-
-is_prefix_lem : (c : tie.Else-not-is_prefix) → is_prefix (at_start c).args.key ≡ true
+is_prefix_lem : (c : tie.Else-not-is_prefix) → is_prefix c.args.key ≡ true
 is_prefix_lem c = sym c.is_prefix.ensures ∙ c.if-not-is_prefix.false
 
 hop-around-requires : tie.Need-hop_around-requires
 hop-around-requires c κs =
     let p = prefix_parts _ (is_prefix_lem c.before) in
-    ((at_start c.before).requires, (p.short, omega (arith, c.network.ensures, p.within)))
+    (c.requires, (p.short, omega (arith, c.network.ensures, p.within)))
 
 -- what was found is the key's own hop
 found : (c : tie.After-hop_around)
-    → let args = (at_start c.before.before).args in
-    c.hop_around.result ≡ hop_around (all_rows args.keys.now args.hops.now) args.key
+    → c.hop_around.result ≡ hop_around (all_rows c.args.keys.now c.args.hops.now) c.args.key
 found c =
-    let n = c.before in
-    let args = (at_start n.before).args in
-    let around = hop_around (all_rows args.keys.now args.hops.now) in
+    let around = hop_around (all_rows c.args.keys.now c.args.hops.now) in
     c.hop_around.ensures
-    ∙ ap (λ net. around (clue_of (length_of args.key) net)) n.network.ensures
-    ∙ ap around (own_clue args.key (is_prefix_lem n.before))
+    ∙ ap (λ net. around (clue_of (length_of c.args.key) net)) c.network.ensures
+    ∙ ap around (own_clue c.args.key (is_prefix_lem c.before.before))
 
 returns-2 : tie.Need-returns-then-hop-hop_around
 returns-2 c =
-    let h = c.before in
-    another_hop _ _ _ _ (is_prefix_lem h.before.before) (found h) (λ e. omega (arith, c.if-hop-hop_around.true, e))
+    another_hop _ _ _ _ (is_prefix_lem c.before.before.before) (found c.before) (λ e. omega (arith, c.if-hop-hop_around.true, e))
 
 extension-requires : tie.Need-extension-requires
-extension-requires c κs =
-    let p = c.before.before.before in
-    ((at_start p).requires, is_prefix_lem p)
+extension-requires c κs = (c.requires, is_prefix_lem c.before.before.before)
 
 returns-3 : tie.Need-returns
 returns-3 c =
-    let h = c.before.before in
-    mark_decides _ _ _ _ (is_prefix_lem h.before.before) (found h) c.if-hop-hop_around.false c.extension.ensures
+    mark_decides _ _ _ _ (is_prefix_lem c.before.before.before.before) (found c.before.before) c.if-hop-hop_around.false c.extension.ensures
 
 pub entry_ok_spec : {M : Type 1} → statement M
 entry_ok_spec =

@@ -6,19 +6,10 @@ use Prim.Native.Nat.{suc}
 use native.Mathlib.Omega.{arith}
 use borrow.Author.Rules.{rules}
 use Rattle.ground.specs.Column.{lower}
-use Rattle.routes.specs.Place.{place_in}
 use Rattle.entries.proofs.Rows.{keys_ascend}
 use Rattle.entries.proofs.Extension.{none_behind, first_extends, first_beyond, next_at, next_missing}
 use Rattle.entries.proofs.entry.extension.Statement.{statement}
 use Rattle.entries.proofs.entry.extension.Tie as tie
-
--- the function's start, where the key's place is known, and what it says
-abbrev at_start : tie.After-place_of → tie.Start
-at_start c = c.before.before.before
-
-abbrev place_is : (c : tie.After-place_of)
-    → c.place_of.result ≡ place_in (at_start c).args.keys.now (at_start c).args.key
-place_is c = c.place_of.ensures (keys_ascend _ _ (at_start c).requires.0)
 
 place-of-requires : tie.Need-place_of-requires
 place-of-requires c κs = search rules
@@ -28,27 +19,23 @@ enum-known-at c = search rules
 
 add-next : tie.Need-overflow_add-next
 add-next c =
-    let p = c.before.before.before in
-    let s = at_start p in
-    omega (arith, (next_at _ _ s.requires.0 _ s.requires.1 _ (sym (place_is p) ∙ c.in-At.is)).0)
+    let place = c.place_of.ensures (keys_ascend _ _ c.requires.0) in
+    omega (arith, (next_at _ _ c.requires.0 _ c.requires.1 _ (sym place ∙ c.in-At.is)).0)
 
 enum-known-at-2 : tie.Need-enum_known-at-in-Missing-1
 enum-known-at-2 c = search rules
 
 -- the place that the two arms make
-next_is : (c : tie.Joined-place_of) → c.match-place_of.next ≡ lower (suc (at_start c.before).args.key) (at_start c.before).args.keys.now
+next_is : (c : tie.Joined-place_of) → c.match-place_of.next ≡ lower (suc c.args.key) c.args.keys.now
 next_is c =
-    let p = c.before in
-    let s = at_start p in
+    let place = c.place_of.ensures (keys_ascend _ _ c.requires.0) in
     ⊎_elim
-    (λ w. w.3 ∙ (next_at _ _ s.requires.0 _ s.requires.1 _ (sym (place_is p) ∙ w.1.given.1)).1)
-    (λ w. w.3 ∙ next_missing _ _ s.requires.0 _ s.requires.1 _ (sym (place_is p) ∙ w.1.given.1))
+    (λ w. w.next-is ∙ (next_at _ _ c.requires.0 _ c.requires.1 _ (sym place ∙ w.in-At.is)).1)
+    (λ w. w.next-is ∙ next_missing _ _ c.requires.0 _ c.requires.1 _ (sym place ∙ w.in-Missing.is))
     c.match-place_of.branch-raw
 
 returns : tie.Need-returns-then-keys-next
-returns c =
-    let s = at_start c.before.before in
-    none_behind _ _ s.requires.0 _ s.requires.1 _ (next_is c.before) c.if-keys-next.true
+returns c = none_behind _ _ c.requires.0 _ c.requires.1 _ (next_is c.before) c.if-keys-next.true
 
 mul-network : tie.Need-offset_bounds-keys-next
 mul-network c = search rules
@@ -64,21 +51,13 @@ end-of-requires c κs = search rules
 
 returns-2 : tie.Need-returns-then-network-end_of
 returns-2 c =
-    let e = c.before in
-    let n = e.before in
-    let left = n.before.before.before in
-    let s = at_start left.before.before in
-    first_extends _ _ s.requires.0 _ s.requires.1 _ (next_is left.before) left.if-keys-next.false
-    (omega (arith, n.network.ensures, e.end_of.ensures))
+    first_extends _ _ c.requires.0 _ c.requires.1 _ (next_is c.before.before.before.before.before.before) c.if-keys-next.false
+    (omega (arith, c.network.ensures, c.end_of.ensures))
 
 returns-3 : tie.Need-returns-else-network-end_of
 returns-3 c =
-    let e = c.before in
-    let n = e.before in
-    let left = n.before.before.before in
-    let s = at_start left.before.before in
-    first_beyond _ _ s.requires.0 _ s.requires.1 _ (next_is left.before) left.if-keys-next.false
-    (omega (arith, n.network.ensures, e.end_of.ensures))
+    first_beyond _ _ c.requires.0 _ c.requires.1 _ (next_is c.before.before.before.before.before.before) c.if-keys-next.false
+    (omega (arith, c.network.ensures, c.end_of.ensures))
 
 pub extension_spec : {M : Type 1} → statement M
 extension_spec =

@@ -24,8 +24,7 @@ add_left c = search rules
 
 loop-holds : tie.Need-loop-left-init invariant-loop decreases-loop
 loop-holds c =
-    let start = c.before.before in
-    (omega (arith, start.requires.1.0), shorter_start _ start.args.a start.args.len start.requires.1.0)
+    (omega (arith, c.requires.1.0), shorter_start _ c.args.a c.args.len c.requires.1.0)
 
 sub-left : tie.Need-overflow_sub-left invariant-loop decreases-loop
 sub-left c = search rules
@@ -39,21 +38,10 @@ place-of-requires c κs = search rules
 enum-known-at : tie.Need-enum_known-at invariant-loop decreases-loop
 enum-known-at c = search rules
 
--- the function's start, and the turn, where a key's place is known
-abbrev at_start : tie.After-place_of invariant-loop decreases-loop → tie.Start invariant-loop decreases-loop
-at_start c = c.before.before.before.before.before.before
-
-abbrev turn : tie.After-place_of invariant-loop decreases-loop → tie.At-loop-left invariant-loop decreases-loop
-turn c = c.before.before.before
-
-abbrev at_place : tie.In-At invariant-loop decreases-loop → tie.After-place_of invariant-loop decreases-loop
-at_place c = c.before.before.before
-
-within : (c : tie.In-At invariant-loop decreases-loop) → c.in-At.at < length (at_start (at_place c)).args.hops.now
+within : (c : tie.In-At invariant-loop decreases-loop) → c.in-At.at < length c.args.hops.now
 within c =
-    let p = at_place c in
-    let w = (at_start p).requires.0 in
-    place_within _ _ w _ _ (sym (p.place_of.ensures (keys_ascend _ _ w)) ∙ c.in-At.is)
+    let w = c.requires.0 in
+    place_within _ _ w _ _ (sym (c.place_of.ensures (keys_ascend _ _ w)) ∙ c.in-At.is)
 
 mul-result : tie.Need-offset_bounds-hops-at invariant-loop decreases-loop
 mul-result c = omega (arith, within c)
@@ -63,12 +51,10 @@ shared-slice-read-result c = within c.before
 
 returns : tie.Need-returns-in-At invariant-loop decreases-loop
 returns c =
-    let known = c.before in
-    let p = at_place known in
-    let w = (at_start p).requires.0 in
-    let inv = (turn p).loop-left.invariant in
-    place_hop _ _ w _ _ _ inv.0 inv.1 (omega arith) _ p.clue_key.ensures _
-    (sym (p.place_of.ensures (keys_ascend _ _ w)) ∙ known.in-At.is)
+    let w = c.requires.0 in
+    let inv = c.loop-left.invariant in
+    place_hop _ _ w _ _ _ inv.0 inv.1 (omega arith) _ c.clue_key.ensures _
+    (sym (c.place_of.ensures (keys_ascend _ _ w)) ∙ c.in-At.is)
 
 enum_told : tie.Need-enum_told-1 invariant-loop decreases-loop
 enum_told c = search rules
@@ -78,12 +64,11 @@ loop-less c = search rules
 
 loop-again : tie.Need-loop-left-preserved invariant-loop decreases-loop
 loop-again c =
-    let p = c.before.before in
-    let w = (at_start p).requires.0 in
-    let inv = (turn p).loop-left.invariant in (
+    let w = c.requires.0 in
+    let inv = c.loop-left.invariant in (
       omega arith,
-      place_missing _ _ w _ _ _ inv.0 inv.1 (omega arith) _ p.clue_key.ensures _
-          (sym (p.place_of.ensures (keys_ascend _ _ w)) ∙ c.in_default.is),
+      place_missing _ _ w _ _ _ inv.0 inv.1 (omega arith) _ c.clue_key.ensures _
+          (sym (c.place_of.ensures (keys_ascend _ _ w)) ∙ c.in_default.is),
     )
 
 returns-2 : tie.Need-returns invariant-loop decreases-loop

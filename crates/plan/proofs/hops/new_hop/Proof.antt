@@ -6,16 +6,16 @@ use Rattle.plan.proofs.OwnHop.{announced_hop}
 use Rattle.plan.proofs.hops.new_hop.Statement.{statement}
 use Rattle.plan.proofs.hops.new_hop.Tie as tie
 
-parent-hop-requires : tie.Need-parent-hop-requires
+parent-hop-requires : tie.Need-parent_hop-requires
 parent-hop-requires c κs = search rules
 
-returns : tie.Need-returns
-returns c = rw (edited_withdrawn _ _ _ c.before.if1.true) c.parent-hop.ensures
+returns : tie.Need-returns-then-hop-eq0
+returns c = rw (edited_withdrawn _ _ _ c.if-hop-eq0.true) c.parent_hop.ensures
 
-returns-2 : tie.Need-returns-2
+returns-2 : tie.Need-returns
 returns-2 c =
-    let pre = c.before.before.before.requires in
-    announced_hop pre.0 _ pre.1 _ c.if1.false
+    let pre = c.requires in
+    announced_hop pre.0 _ pre.1 _ c.if-hop-eq0.false
 
 pub new_hop_spec : {M : Type 1} → statement M
 new_hop_spec = tie.close (tie.spec parent-hop-requires returns returns-2)

@@ -6,28 +6,28 @@ use Rattle.plan.proofs.OwnHop.{found_there, found_own, unlisted_own}
 use Rattle.plan.proofs.hops.old_hop.Statement.{statement}
 use Rattle.plan.proofs.hops.old_hop.Tie as tie
 
-mul-result : tie.Need-overflow-mul-result
+mul-result : tie.Need-offset_bounds-hops-at
 mul-result c =
-    let pre = c.before.before.before.requires in
-    omega (arith, found_there pre.0 _ pre.3 c.if1.true)
+    let pre = c.requires in
+    omega (arith, found_there pre.0 _ pre.3 c.if-found.true)
 
-shared-slice-read-result : tie.Need-shared-slice-read-result
+shared-slice-read-result : tie.Need-bounds-hops-at
 shared-slice-read-result c =
-    let pre = c.before.before.before.before.requires in
-    found_there pre.0 _ pre.3 c.before.if1.true
+    let pre = c.requires in
+    found_there pre.0 _ pre.3 c.if-found.true
 
-returns : tie.Need-returns
+returns : tie.Need-returns-then-found
 returns c =
-    let pre = c.before.before.before.before.requires in
-    found_own pre.0 _ pre.3 c.before.if1.true pre.1
+    let pre = c.requires in
+    found_own pre.0 _ pre.3 c.if-found.true pre.1
 
-parent-hop-requires : tie.Need-parent-hop-requires
+parent-hop-requires : tie.Need-parent_hop-requires
 parent-hop-requires c κs = search rules
 
-returns-2 : tie.Need-returns-2
+returns-2 : tie.Need-returns
 returns-2 c =
-    let pre = c.before.before.before.before.requires in
-    unlisted_own pre.0 _ pre.3 c.before.if1.false c.parent-hop.ensures
+    let pre = c.requires in
+    unlisted_own pre.0 _ pre.3 c.if-found.false c.parent_hop.ensures
 
 pub old_hop_spec : {M : Type 1} → statement M
 old_hop_spec = tie.close (tie.spec mul-result shared-slice-read-result returns parent-hop-requires returns-2)

@@ -9,43 +9,38 @@ use Rattle.plan.proofs.Joining.{some_below, joint_within, seamed}
 use Rattle.plan.proofs.joins.seams.Statement.{statement}
 use Rattle.plan.proofs.joins.seams.Tie as tie
 
-joint-before-requires : tie.Need-joint-before-requires
+joint-before-requires : tie.Need-joint_before-joint-requires
 joint-before-requires c κs = search rules
 
-add-lower : tie.Need-overflow-add-lower
+add-lower : tie.Need-overflow_add-end
 add-lower c = search rules
 
-lower-requires : tie.Need-lower-requires
+lower-requires : tie.Need-lower-past-requires
 lower-requires c κs = search rules
 
-abbrev at_start : tie.After-lower → tie.Start
-at_start p = p.before.before.before.before
+placed : (p : tie.After-lower-past) → p.lower-past.result ≡ lower (p.args.end + 1) p.args.starts.now
+placed p = p.lower-past.ensures p.requires.0.ascend
 
-placed : (p : tie.After-lower) → p.lower.result ≡ lower ((at_start p).args.end + 1) (at_start p).args.starts.now
-placed p = p.lower.ensures (at_start p).requires.0.ascend
+sub-hop : tie.Need-overflow_sub-hop
+sub-hop c = omega (arith, placed c, some_below c.requires.0 (c.args.end + 1) (omega arith))
 
-sub-hop : tie.Need-overflow-sub-hop
-sub-hop c = omega (arith, placed c, some_below (at_start c).requires.0 ((at_start c).args.end + 1) (omega arith))
-
-mul-hop : tie.Need-overflow-mul-hop
+mul-hop : tie.Need-offset_bounds-rhops-past
 mul-hop c =
-    omega (arith, placed c, some_below (at_start c).requires.0 ((at_start c).args.end + 1) (omega arith), (at_start c).requires.0.paired)
+    omega (arith, placed c, some_below c.requires.0 (c.args.end + 1) (omega arith), c.requires.0.paired)
 
-shared-slice-read-hop : tie.Need-shared-slice-read-hop
+shared-slice-read-hop : tie.Need-bounds-rhops-past
 shared-slice-read-hop c =
-    let p = c.before in
-    omega (arith, placed p, some_below (at_start p).requires.0 ((at_start p).args.end + 1) (omega arith), (at_start p).requires.0.paired)
+    omega (arith, placed c.before, some_below c.requires.0 (c.args.end + 1) (omega arith), c.requires.0.paired)
 
-add-block-slot : tie.Need-overflow-add-block-slot
-add-block-slot c = let p = c.before.before.before in omega (arith, joint_within p.before.joint-before.ensures, (at_start p).requires.3)
+add-block-slot : tie.Need-overflow_add-joint
+add-block-slot c = omega (arith, joint_within c.joint_before-joint.ensures, c.requires.3)
 
-block-slot-requires : tie.Need-block-slot-requires
-block-slot-requires c κs = let p = c.before.before.before in omega (arith, joint_within p.before.joint-before.ensures, (at_start p).requires.3)
+block-slot-requires : tie.Need-block_slot-to-requires
+block-slot-requires c κs = omega (arith, joint_within c.joint_before-joint.ensures, c.requires.3)
 
 returns : tie.Need-returns
 returns c =
-    let p = c.before.before.before.before in
-    seamed p.before.joint-before.ensures (placed p) c.block-slot.ensures
+    seamed c.joint_before-joint.ensures (placed c.before.before.before.before) c.block_slot-to.ensures
 
 pub seams_spec : {M : Type 1} → statement M
 seams_spec =

@@ -15,14 +15,6 @@ use Rattle.plan.proofs.Rewriting.{column, column_first}
 use Rattle.plan.proofs.table.splice_runs.Statement.{statement}
 use Rattle.plan.proofs.table.splice_runs.Tie as tie
 
-abbrev start : tie.After-slice-known4 → tie.Start
-start c = c.before.before.before.before.before.before.before.before.before.before.before.before
-
--- from the end back to before the runs inside are written
-abbrev call : tie.After-slice-known6 → tie.After-slice-known4
-call c = c.before.before.before.before.before.before.before
-
--- the runs inside: there is one
 abbrev answers : tie.Start → ℕ → ℕ
 answers st = answer st.args.base (all_rows st.args.keys.now st.args.hops.now)
 
@@ -38,93 +30,90 @@ shift-requires c κs = search rules
 shift-requires-2 : tie.Need-shift-requires-2
 shift-requires-2 c κs = search rules
 
-cast-starts : tie.Need-overflow-cast-starts
+cast-starts : tie.Need-overflow_cast-starts
 cast-starts c = search rules
 
-sub-starts : tie.Need-overflow-sub-starts
-sub-starts c = omega (arith, some (start c))
+sub-starts : tie.Need-overflow_sub-starts
+sub-starts c = omega (arith, some c.before.before.before.before.before.before.before.before.before.before.before.before)
 
-mul-starts : tie.Need-overflow-mul-starts
+mul-starts : tie.Need-offset_bounds-starts-to
 mul-starts c = search rules
 
-slice-write-starts : tie.Need-slice-write-starts
-slice-write-starts c = omega (arith, some (start c))
+slice-write-starts : tie.Need-bounds-starts-to
+slice-write-starts c = omega (arith, some c.before.before.before.before.before.before.before.before.before.before.before.before)
 
-sub-rhops : tie.Need-overflow-sub-rhops
-sub-rhops c = omega (arith, some (start c))
+sub-rhops : tie.Need-overflow_sub-rhops
+sub-rhops c = omega (arith, some c.before.before.before.before.before.before.before.before.before.before.before.before)
 
-mul-rhops : tie.Need-overflow-mul-rhops
+mul-rhops : tie.Need-offset_bounds-rhops-to
 mul-rhops c = search rules
 
-slice-write-rhops : tie.Need-slice-write-rhops
-slice-write-rhops c = omega (arith, some (start c))
+slice-write-rhops : tie.Need-bounds-rhops-to
+slice-write-rhops c = omega (arith, some c.before.before.before.before.before.before.before.before.before.before.before.before)
 
-mul-write-runs : tie.Need-overflow-mul-write-runs
+mul-write-runs : tie.Need-offset_bounds-starts-from
 mul-write-runs c = search rules
 
-sub-write-runs : tie.Need-overflow-sub-write-runs
+sub-write-runs : tie.Need-slice_bounds-write_runs-count
 sub-write-runs c = simp length-set (omega arith)
 
-part-write-runs-start : tie.Need-slice-bounds-write-runs-start
+part-write-runs-start : tie.Need-slice_bounds-write_runs-start
 part-write-runs-start c = sub-write-runs c
 
-part-write-runs-end : tie.Need-slice-bounds-write-runs-end
+part-write-runs-end : tie.Need-slice_bounds-write_runs-end
 part-write-runs-end c = search rules
 
-mul-write-runs-2 : tie.Need-overflow-mul-write-runs-2
+mul-write-runs-2 : tie.Need-offset_bounds-rhops-from
 mul-write-runs-2 c = search rules
 
-sub-write-runs-2 : tie.Need-overflow-sub-write-runs-2
+sub-write-runs-2 : tie.Need-slice_bounds-write_runs-count-2
 sub-write-runs-2 c = simp length-set (omega arith)
 
-part-write-runs-start-2 : tie.Need-slice-bounds-write-runs-start-2
+part-write-runs-start-2 : tie.Need-slice_bounds-write_runs-start-2
 part-write-runs-start-2 c = sub-write-runs-2 c
 
-part-write-runs-end-2 : tie.Need-slice-bounds-write-runs-end-2
+part-write-runs-end-2 : tie.Need-slice_bounds-write_runs-end-2
 part-write-runs-end-2 c = search rules
 
-write-runs-requires : tie.Need-write-runs-requires
-write-runs-requires c κs =
-    let st = start c.before.before in (
-      st.pre.0,
-      st.pre.1,
-      omega arith,
-      omega arith,
-      simp (counted_is, length-take, length-drop, length-set) (omega arith),
-      simp (counted_is, length-take, length-drop, length-set) (omega arith),
-    )
+write-runs-requires : tie.Need-write_runs-requires
+write-runs-requires c κs = (
+  c.requires.0,
+  c.requires.1,
+  omega arith,
+  omega arith,
+  simp (counted_is, length-take, length-drop, length-set) (omega arith),
+  simp (counted_is, length-take, length-drop, length-set) (omega arith),
+)
 
-mul-starts-2 : tie.Need-overflow-mul-starts-2
+mul-starts-2 : tie.Need-offset_bounds-starts-from-2
 mul-starts-2 c = search rules
 
-slice-write-starts-2 : tie.Need-slice-write-starts-2
-slice-write-starts-2 c = rw (c.before.before.before.starts2.given.1, length-set) (omega (arith, some (start (call c))))
+slice-write-starts-2 : tie.Need-bounds-starts-from
+slice-write-starts-2 c = rw (c.starts-2-1.given.1, length-set) (omega (arith, some c.before.before.before.before.before.before.before.before.before.before.before.before.before.before.before.before.before.before.before))
 
-same_length : tie.Need-same-length
-same_length c = rw (length-set, c.before.before.before.starts2.given.1, length-set) (omega arith)
+same_length : tie.Need-shape_of-starts
+same_length c = rw (length-set, c.starts-2-1.given.1, length-set) (omega arith)
 
-same-length-2 : tie.Need-same-length-2
-same-length-2 c = rw (c.before.rhops2.given.1, length-set) (omega arith)
+same-length-2 : tie.Need-shape_of-rhops
+same-length-2 c = rw (c.rhops-2-1.given.1, length-set) (omega arith)
 
 returns : tie.Need-returns
 returns c =
-    let b = call c in
-    let st = start b in
-    let runs = c.before.before.before.before.write-runs.ensures in
-    let end = st.args.end in
-    let hop = st.args.s.hop in
+    let runs = c.write_runs.ensures in
+    let end = c.args.end in
+    let hop = c.args.s.hop in
     record {
       starts_are =
-          column_first st.pre.2 (some st) st.args.starts.now st.pre.3 st.pre.5 (inside st) refl (end % 4294967296) end
-          (λ l. mod-eq_of_lt (st.pre.2.is_Address l))
-          b.before.before.before.before.before.before.shift.ensures
+          column_first c.requires.2 (some c.before.before.before.before.before.before.before.before.before.before.before.before.before.before.before.before.before.before.before) c.args.starts.now c.requires.3 c.requires.5 (inside c.before.before.before.before.before.before.before.before.before.before.before.before.before.before.before.before.before.before.before) refl (end % 4294967296) end
+          (λ l. mod-eq_of_lt (c.requires.2.is_address l))
+          c.shift.ensures
           runs.starts_are
-          st.args.s.first;
+          c.args.s.first;
       hops_are =
-          column st.pre.2 (some st) st.args.rhops.now st.pre.4 st.pre.6 (map (answers st) (inside st))
-          (length-map (inside st) (answers st)) hop hop
+          column c.requires.2 (some c.before.before.before.before.before.before.before.before.before.before.before.before.before.before.before.before.before.before.before) c.args.rhops.now c.requires.4 c.requires.6 (map (answers c.before.before.before.before.before.before.before.before.before.before.before.before.before.before.before.before.before.before.before) (inside c.before.before.before.before.before.before.before.before.before.before.before.before.before.before.before.before.before.before.before))
+          (length-map (inside c.before.before.before.before.before.before.before.before.before.before.before.before.before.before.before.before.before.before.before) (answers c.before.before.before.before.before.before.before.before.before.before.before.before.before.before.before.before.before.before.before)) hop hop
           (λ l. refl)
-          b.before.before.shift2.ensures
+          c.shift-2.ensures
           runs.hops_are;
     }
 

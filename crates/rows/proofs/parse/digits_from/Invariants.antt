@@ -1,0 +1,10 @@
+-- At each turn what is read and the digits that are left make the whole (`Reads`).
+-- Assumes nothing.
+use Rattle.rows.proofs.Fields.{Reads}
+use Rattle.rows.proofs.parse.digits_from.Given as goal
+
+abbrev pub invariant-loop-left : goal.invariant-loop-left
+invariant-loop-left l = Reads l.row l.at l.most l.value l.next l.left
+
+abbrev pub decreases-loop-left : goal.decreases-loop-left
+decreases-loop-left l = l.left
