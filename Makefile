@@ -5,7 +5,7 @@
 # make tools      builds the tools, target/tools/whelk-import and whelk-why
 # make install    puts library, header, programs and man pages below PREFIX=.., else /usr/local; DESTDIR=.. goes before each path
 # make uninstall  removes what install puts there, with the same PREFIX and DESTDIR; folders stay
-# make clean      removes all that was built: target/ and target-tests/
+# make clean      removes all that was built: target/, target-tests/ and each crate's out/
 # make help       prints these lines
 .PHONY: all proofs test run tools install uninstall clean help
 FEED ?= tests/program/sample.feed
@@ -29,7 +29,7 @@ soname = libwhelkhollow.so.$(firstword $(subst ., ,$(version)))
 all: proofs $(library) $(shared) $(tools) $(whelk)
 
 proofs:
-	rt check
+	rt all check
 
 test:
 	bash tests/run
@@ -38,7 +38,7 @@ test:
 # make itself; put ./ before them.
 run: override export FEED := $(value FEED)
 run:
-	@rt check whelk >&2
+	@bash scripts/built whelk >&2
 	@bash scripts/whelk <"$$FEED"
 
 tools: $(tools)
@@ -47,16 +47,15 @@ tools: $(tools)
 .NOTPARALLEL:
 .DELETE_ON_ERROR:
 
-# What is proved: all below crates/ but the edits that must fail. Folders stand for files that came or went.
-proved := crates.txt $(shell find crates -name must-fail -prune -o -print 2>/dev/null)
+# What is proved: all below crates/NAME but the edits that must fail and what rt makes. Folders stand for files that came or went.
+proved := crates.txt $(shell find crates -mindepth 2 \( -name must-fail -o -name out \) -prune -o -print 2>/dev/null)
 
-$(library): $(proved)
-	rt staticlib host
+$(library): $(proved) scripts/built
+	bash scripts/built host_c
 
 # Where the program's own crates are as they were, rt leaves it as it is.
-$(whelk): $(proved)
-	rt check whelk
-	touch $@
+$(whelk): $(proved) scripts/built
+	bash scripts/built whelk
 
 $(shared): $(library) $(header) tools/shared tools/exports.map
 	bash tools/shared $(soname)
@@ -96,7 +95,7 @@ uninstall:
 	rm -f $(man)/man1/whelk.1 $(man)/man1/whelk-import.1 $(man)/man1/whelk-why.1 $(man)/man3/whelkhollow.3
 
 clean:
-	rm -rf target target-tests
+	rm -rf target target-tests crates/*/out
 
 help:
 	@sed -n 's/^# //p; /^\.PHONY/q' Makefile

@@ -1,6 +1,6 @@
 /* Whelkhollow's hints for C, for a router whose neighbour sends the length of its own best match along with each packet. A product of its own beside
    whelkhollow.h, whose rules for callers hold here too: any values may be handed in, a refused call writes nothing, and a pointer isn't null. Link
-   target/staticlib/libclue_host.a, which `rt staticlib clue_host` builds, and libhost.a for run lookup. docs/RULES.md has all rules, in section 19.
+   target/staticlib/libclue_host.a, which `bash scripts/built clue_host_c` builds, and libhost.a for run lookup. docs/RULES.md has all rules, in section 19.
 
    A clue is a length from 0 to 32 and an address, read as that many first bits of the address: a prefix. For a list and a clue an entry says which
    hop the longest listed prefix has that holds the clue's, and whether a longer listed prefix extends the clue. If none does, that hop is final for

@@ -1,7 +1,7 @@
 #!/usr/bin/env python3
-"""Holds docs/PROMISES.md to the tree. Each theorem that it names is declared, in the file that it gives where it gives one; each must-fail edit
-that it names is there, and each that is there is named; each public function of a crate for callers stands in it. The last line is
-'N passed, M failed'.
+"""Holds docs/PROMISES.md to the tree. Each name of several words is that of a theorem, a definition, a must-fail edit, a function or a crate that is
+there; each theorem is declared in the file that it gives where it gives one; each must-fail edit that it names is there, and each that is there is
+named; each public function of a crate for callers stands in it. The last line is 'N passed, M failed'.
 """
 import pathlib
 import re
@@ -43,11 +43,17 @@ def public_functions(crate):
     return set(re.findall(r"^\s*pub fn (\w+)", source, re.M))
 
 
+def functions():
+    """The functions of all crates, public or not."""
+    return {name for file in CRATES.glob("*/src/**/*.rt") for name in re.findall(r"\bfn (\w+)", file.read_text())}
+
+
 everywhere = declared([*CRATES.glob("*/specs/**/*.antt"), *CRATES.glob("*/proofs/**/*.antt")])
 edits = {file.stem for file in CRATES.glob("*/must-fail/*.edit")}
 
-for name in sorted(name for name in NAMED if re.fullmatch(r"[\w]+(-[\w]+)+", name)):
-    check(f"the theorem {name} is declared", name in everywhere)
+there_is = everywhere | edits | functions() | {crate.name for crate in CRATES.iterdir()}
+for name in sorted(name for name in NAMED if re.fullmatch(r"\w+(?:[-_]\w+)+", name)):
+    check(f"{name} is a theorem, a definition, an edit, a function or a crate", name in there_is)
 
 for names, crate, files in GIVEN.findall(TEXT):
     there = [CRATES / crate / "proofs" / f"{file}.antt" for file in re.findall(r"`([\w.]+)`", files)]
@@ -69,7 +75,7 @@ for crate in sorted(CRATES.iterdir()):
         for name in sorted(public_functions(crate)):
             check(f"{crate.name}::{name} is named", re.search(rf"`(?:\w+::)?{name}[`(]", TEXT))
 
-for source in (CRATES / "host" / "src").glob("*.rt"):
+for source in (CRATES / "host_c" / "src").glob("*.rt"):
     for name in re.findall(r'pub extern "C" fn (\w+)', source.read_text()):
         check(f"the export {name} is named", f"| `{name}` |" in TEXT)
 

@@ -1,5 +1,5 @@
 // The C interface of the hints: entries built, looked up with a clue, and asked quickly, over memory that the host lends, each with one
-// number or one plain struct back. It is a product of its own beside `host`; include/whelkhollow_clue.h declares what is exported here.
+// number or one plain struct back. It is a product of its own beside `host`; `clue_host_c` exports the entries to C, under these names.
 #![tactic(auto)]
 
 ghost use Rattle.clue_host.specs.Exports.{host_entries_gave, hint_for_c, quick_for_c};
@@ -52,8 +52,7 @@ fn entered_for_c(r: Entered) -> WhelkEntries
 }
 
 // Rules 19.3 and 19.4: the entries of a lent list for lent clues, into lent memory.
-#[unsafe(no_mangle)]
-pub extern "C" fn whelk_clue_build(
+pub fn whelk_clue_build(
     count: usize,
     keys: &[u64],
     hops: &[u16],
@@ -91,8 +90,7 @@ fn hint_for_c(r: Hinted) -> u64
 }
 
 // Rules 19.5 and 19.6: the plain answer of a lent list, with a hint and lent entries.
-#[unsafe(no_mangle)]
-pub extern "C" fn whelk_clue_lookup(
+pub fn whelk_clue_lookup(
     count: usize,
     keys: &[u64],
     hops: &[u16],
@@ -122,14 +120,7 @@ fn told_for_c(r: Told) -> u32
 }
 
 // Rule 19.7: what lent entries say of a clue, by halving.
-#[unsafe(no_mangle)]
-pub extern "C" fn whelk_clue_quick(
-    ekeys: &[u64],
-    ehops: &[u16],
-    marks: &[u8],
-    len: u32,
-    a: u32,
-) -> u32
+pub fn whelk_clue_quick(ekeys: &[u64], ehops: &[u16], marks: &[u8], len: u32, a: u32) -> u32
     ensures { result ≡ quick_for_c (quick_lookup (entries_lent ekeys.now ehops.now marks.now) len a) }
 {
     told_for_c(clue::quick(ekeys, ehops, marks, len, a))

@@ -4,6 +4,7 @@ ghost use Rattle.std.specs.Prelude.{◌≤◌};
 use crate::{Column, UNWRITTEN, show};
 use edit::Edit;
 use runs::Built;
+use std::io;
 
 // What is done with a prefix.
 #[derive(Drop)]
@@ -14,6 +15,7 @@ enum Change {
 
 // An edit's number, the changed number, the new counts, and every slot that it was lent.
 fn left(
+    rt: &impl Print,
     number: u64,
     changed: u64,
     count: usize,
@@ -22,34 +24,42 @@ fn left(
     hops: &[u16],
     starts: &[u32],
     rhops: &[u16],
-) {
-    print::line(b"number", number);
-    print::line(b"changed", changed);
-    print::line(b"rows", count as u64);
-    print::line(b"runs", n as u64);
-    show(b"keys", Column::Keys, keys.len(), b"", keys, hops);
-    show(b"hops", Column::Hops, hops.len(), b"", keys, hops);
-    print::runs(starts.len(), starts, rhops);
+) -> io::Result<()> {
+    print::line(rt, b"number", number)?;
+    print::line(rt, b"changed", changed)?;
+    print::line(rt, b"rows", count as u64)?;
+    print::line(rt, b"runs", n as u64)?;
+    show(rt, b"keys", Column::Keys, keys.len(), b"", keys, hops)?;
+    show(rt, b"hops", Column::Hops, hops.len(), b"", keys, hops)?;
+    print::runs(rt, starts.len(), starts, rhops)
 }
 
 // What an edit gave and left.
-fn told(e: Edit, keys: &[u64], hops: &[u16], starts: &[u32], rhops: &[u16]) {
+fn told(
+    rt: &impl Print,
+    e: Edit,
+    keys: &[u64],
+    hops: &[u16],
+    starts: &[u32],
+    rhops: &[u16],
+) -> io::Result<()> {
     match e {
         Edit::Done {
             changed,
             count,
             runs,
-        } => left(0, changed, count, runs, keys, hops, starts, rhops),
-        Edit::BadEdit => left(15, 0, 0, 0, keys, hops, starts, rhops),
-        Edit::IllFormed => left(11, 0, 0, 0, keys, hops, starts, rhops),
-        Edit::NotItsRuns => left(14, 0, 0, 0, keys, hops, starts, rhops),
-        Edit::NotListed => left(16, 0, 0, 0, keys, hops, starts, rhops),
-        Edit::NoRoom => left(13, 0, 0, 0, keys, hops, starts, rhops),
+        } => left(rt, 0, changed, count, runs, keys, hops, starts, rhops),
+        Edit::BadEdit => left(rt, 15, 0, 0, 0, keys, hops, starts, rhops),
+        Edit::IllFormed => left(rt, 11, 0, 0, 0, keys, hops, starts, rhops),
+        Edit::NotItsRuns => left(rt, 14, 0, 0, 0, keys, hops, starts, rhops),
+        Edit::NotListed => left(rt, 16, 0, 0, 0, keys, hops, starts, rhops),
+        Edit::NoRoom => left(rt, 13, 0, 0, 0, keys, hops, starts, rhops),
     }
 }
 
 // One edit of a list and its run table.
 fn edited(
+    rt: &impl Print,
     net: u32,
     len: u32,
     change: Change,
@@ -59,21 +69,22 @@ fn edited(
     runs: usize,
     starts: &mut [u32],
     rhops: &mut [u16],
-) {
+) -> io::Result<()> {
     match change {
         Change::Announce(hop) => {
             let e = edit::announce(net, len, hop, count, keys, hops, runs, starts, rhops);
-            told(e, keys, hops, starts, rhops);
+            told(rt, e, keys, hops, starts, rhops)
         }
         Change::Withdraw => {
             let e = edit::withdraw(net, len, count, keys, hops, runs, starts, rhops);
-            told(e, keys, hops, starts, rhops);
+            told(rt, e, keys, hops, starts, rhops)
         }
     }
 }
 
 // One edit of a feed's list and its run table, both of which fit what is lent.
 fn of_list(
+    rt: &impl Print,
     feed: &[u8],
     net: u32,
     len: u32,
@@ -82,30 +93,40 @@ fn of_list(
     hops: &mut [u16],
     starts: &mut [u32],
     rhops: &mut [u16],
-) {
+) -> io::Result<()> {
     let mut report = [0u8; 16];
     let i = feed::import(feed, keys, hops, &mut report);
     let c = i.counts;
     let count = c.of[feed::TAKEN as usize];
     match runs::build(count, keys, hops, starts, rhops) {
-        Built::Runs(n) => edited(net, len, change, count, keys, hops, n, starts, rhops),
-        Built::IllFormed => print::text(b"run table refused\n"),
-        Built::NoRoom => print::text(b"run table refused\n"),
+        Built::Runs(n) => edited(rt, net, len, change, count, keys, hops, n, starts, rhops),
+        Built::IllFormed => print::text(rt, b"run table refused\n"),
+        Built::NoRoom => print::text(rt, b"run table refused\n"),
     }
 }
 
 // The same in `k` slots for rows and `r` for runs that hold what nothing has written.
-fn of_feed(name: &[u8], feed: &[u8], net: u32, len: u32, change: Change, k: usize, r: usize)
+fn of_feed(
+    rt: &impl Print,
+    name: &[u8],
+    feed: &[u8],
+    net: u32,
+    len: u32,
+    change: Change,
+    k: usize,
+    r: usize,
+) -> io::Result<()>
     requires { (k ≤ 16) × (r ≤ 16) }
 {
-    print::text(b"# Edit: ");
-    print::text(name);
-    print::text(b"\n");
+    print::text(rt, b"# Edit: ")?;
+    print::text(rt, name)?;
+    print::text(rt, b"\n")?;
     let mut keys = [UNWRITTEN; 16];
     let mut hops = [9u16; 16];
     let mut starts = [151587081u32; 16];
     let mut rhops = [9u16; 16];
     of_list(
+        rt,
         feed,
         net,
         len,
@@ -114,14 +135,23 @@ fn of_feed(name: &[u8], feed: &[u8], net: u32, len: u32, change: Change, k: usiz
         &mut hops[..k],
         &mut starts[..r],
         &mut rhops[..r],
-    );
+    )
 }
 
 // One edit of list A.
-fn of_a(name: &[u8], net: u32, len: u32, change: Change, k: usize, r: usize)
+fn of_a(
+    rt: &impl Print,
+    name: &[u8],
+    net: u32,
+    len: u32,
+    change: Change,
+    k: usize,
+    r: usize,
+) -> io::Result<()>
     requires { (k ≤ 16) × (r ≤ 16) }
 {
     of_feed(
+        rt,
         name,
         b"200.24.0.0/14 1\n200.26.0.0/15 2\n200.27.0.0/16 3\n200.27.64.0/18 1\n200.27.112.0/20 2\n200.27.128.0/20 1\n200.27.240.0/20 2\n",
         net,
@@ -129,44 +159,49 @@ fn of_a(name: &[u8], net: u32, len: u32, change: Change, k: usize, r: usize)
         change,
         k,
         r,
-    );
+    )
 }
 
 // Rules 14.7, 14.8, 14.11 and 10.11.
-fn figures() {
+fn figures(rt: &impl Print) -> io::Result<()> {
     of_a(
+        rt,
         b"200.27.64.0/18 withdrawn from A",
         3357229056,
         18,
         Change::Withdraw,
         8,
         11,
-    );
+    )?;
     of_a(
+        rt,
         b"200.27.224.0/19 hop 1 announced to A",
         3357270016,
         19,
         Change::Announce(1),
         9,
         12,
-    );
+    )?;
     of_a(
+        rt,
         b"200.27.224.0/19 hop 3 announced to A",
         3357270016,
         19,
         Change::Announce(3),
         9,
         12,
-    );
+    )?;
     of_a(
+        rt,
         b"200.27.64.0/18 announced to A with its own hop, in full slices",
         3357229056,
         18,
         Change::Announce(1),
         7,
         10,
-    );
+    )?;
     of_feed(
+        rt,
         b"0.0.0.0/0 hop 4 announced to the empty list",
         b"",
         0,
@@ -174,8 +209,9 @@ fn figures() {
         Change::Announce(4),
         2,
         2,
-    );
+    )?;
     of_feed(
+        rt,
         b"0.0.0.0/0 withdrawn again",
         b"0.0.0.0/0 4\n",
         0,
@@ -183,12 +219,13 @@ fn figures() {
         Change::Withdraw,
         2,
         2,
-    );
+    )
 }
 
 // Rules 15.1 to 15.3: more runs, the last address, and a longer prefix inside that keeps its hop.
-fn slips() {
+fn slips(rt: &impl Print) -> io::Result<()> {
     of_feed(
+        rt,
         b"a withdrawal that needs two more runs",
         b"10.0.0.0/8 1\n10.0.0.0/10 2\n10.64.0.0/10 2\n10.128.0.0/10 2\n",
         171966464,
@@ -196,8 +233,9 @@ fn slips() {
         Change::Withdraw,
         4,
         6,
-    );
+    )?;
     of_feed(
+        rt,
         b"the same in one run less",
         b"10.0.0.0/8 1\n10.0.0.0/10 2\n10.64.0.0/10 2\n10.128.0.0/10 2\n",
         171966464,
@@ -205,8 +243,9 @@ fn slips() {
         Change::Withdraw,
         4,
         5,
-    );
+    )?;
     of_feed(
+        rt,
         b"255.0.0.0/8 hop 5 announced under 0.0.0.0/0 hop 4",
         b"0.0.0.0/0 4\n",
         4278190080,
@@ -214,8 +253,9 @@ fn slips() {
         Change::Announce(5),
         2,
         3,
-    );
+    )?;
     of_feed(
+        rt,
         b"128.0.0.0/1 withdrawn from around 255.255.255.255/32",
         b"128.0.0.0/1 5\n255.255.255.255/32 6\n",
         2147483648,
@@ -223,8 +263,9 @@ fn slips() {
         Change::Withdraw,
         2,
         3,
-    );
+    )?;
     of_feed(
+        rt,
         b"10.0.0.0/8 hop 1 announced around 10.64.0.0/10 hop 2",
         b"10.64.0.0/10 2\n",
         167772160,
@@ -232,44 +273,49 @@ fn slips() {
         Change::Announce(1),
         2,
         5,
-    );
+    )
 }
 
 // Rules 10.2, 10.4 and 10.5.
-fn refusals() {
+fn refusals(rt: &impl Print) -> io::Result<()> {
     of_a(
+        rt,
         b"200.27.224.0/19 hop 1 announced to A in one row less",
         3357270016,
         19,
         Change::Announce(1),
         7,
         12,
-    );
+    )?;
     of_a(
+        rt,
         b"200.27.224.0/19 hop 1 announced to A in one run less",
         3357270016,
         19,
         Change::Announce(1),
         8,
         10,
-    );
+    )?;
     of_a(
+        rt,
         b"200.27.224.0/19 withdrawn from A",
         3357270016,
         19,
         Change::Withdraw,
         7,
         10,
-    );
+    )?;
     of_a(
+        rt,
         b"200.27.224.0/18 withdrawn from A: a host bit",
         3357270016,
         18,
         Change::Withdraw,
         7,
         10,
-    );
+    )?;
     of_feed(
+        rt,
         b"10.0.0.0/72 withdrawn: a length above 32",
         b"10.0.0.0/8 7\n",
         167772160,
@@ -277,8 +323,9 @@ fn refusals() {
         Change::Withdraw,
         1,
         3,
-    );
+    )?;
     of_feed(
+        rt,
         b"10.0.0.0/8 announced with hop 0",
         b"10.0.0.0/8 7\n",
         167772160,
@@ -286,12 +333,12 @@ fn refusals() {
         Change::Announce(0),
         1,
         3,
-    );
+    )
 }
 
 // All figures of edits.
-pub fn edits() {
-    figures();
-    slips();
-    refusals();
+pub fn edits(rt: &impl Print) -> io::Result<()> {
+    figures(rt)?;
+    slips(rt)?;
+    refusals(rt)
 }

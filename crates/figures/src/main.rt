@@ -11,58 +11,59 @@ use packed::PackedHop;
 use routes::Looked;
 use runs::Built;
 use segment::Packing;
+use std::io;
 
 // What stands in a key's slot that nothing has written: 9.9.9.9/32. In a hop's slot and in the report it is 9.
 pub const UNWRITTEN: u64 = 9701573216;
 
 // The plain answer at an address.
-fn plain(count: usize, keys: &[u64], hops: &[u16], a: u32) {
+fn plain(rt: &impl Print, count: usize, keys: &[u64], hops: &[u16], a: u32) -> io::Result<()> {
     match routes::plain_lookup(count, keys, hops, a) {
-        Looked::Hop(hop) => print::answer(a, hop),
-        Looked::IllFormed => print::text(b"11\n"),
+        Looked::Hop(hop) => print::answer(rt, a, hop),
+        Looked::IllFormed => print::text(rt, b"11\n"),
     }
 }
 
 // Rule 14.3: the plain answers of list A.
-fn plain_answers() {
-    print::text(b"# Plain answers of list A\n");
+fn plain_answers(rt: &impl Print) -> io::Result<()> {
+    print::text(rt, b"# Plain answers of list A\n")?;
     let mut keys = [0u64; 7];
     let mut hops = [0u16; 7];
     let mut report = [0u8; 7];
     let a =
         b"200.24.0.0/14 1\n200.26.0.0/15 2\n200.27.0.0/16 3\n200.27.64.0/18 1\n200.27.112.0/20 2\n200.27.128.0/20 1\n200.27.240.0/20 2\n";
     feed::import(a, &mut keys, &mut hops, &mut report);
-    plain(7, &keys, &hops, 3357241514);
-    plain(7, &keys, &hops, 3357278208);
-    plain(7, &keys, &hops, 3357016063);
-    plain(7, &keys, &hops, 3357147135);
-    plain(7, &keys, &hops, 0);
-    plain(7, &keys, &hops, 4294967295);
+    plain(rt, 7, &keys, &hops, 3357241514)?;
+    plain(rt, 7, &keys, &hops, 3357278208)?;
+    plain(rt, 7, &keys, &hops, 3357016063)?;
+    plain(rt, 7, &keys, &hops, 3357147135)?;
+    plain(rt, 7, &keys, &hops, 0)?;
+    plain(rt, 7, &keys, &hops, 4294967295)
 }
 
 // A number on a line of numbers.
-fn item(n: u64) {
-    print::text(b" ");
-    print::number(n);
+fn item(rt: &impl Print, n: u64) -> io::Result<()> {
+    print::text(rt, b" ")?;
+    print::number(rt, n)
 }
 
 // The number that an import returns, and the counts.
-fn counts(number: u64, c: Counts) {
-    print::line(b"number", number);
-    print::text(b"counts");
-    item(c.rows as u64);
-    item(c.of[feed::TAKEN as usize] as u64);
-    item(c.of[feed::SHAPE as usize] as u64);
-    item(c.of[feed::ZEROS as usize] as u64);
-    item(c.of[feed::RANGE as usize] as u64);
-    item(c.of[feed::HOST_BITS as usize] as u64);
-    item(c.of[feed::REPLACED as usize] as u64);
-    item(c.of[feed::NO_ROOM_LEFT as usize] as u64);
-    print::text(b"\n");
+fn counts(rt: &impl Print, number: u64, c: Counts) -> io::Result<()> {
+    print::line(rt, b"number", number)?;
+    print::text(rt, b"counts")?;
+    item(rt, c.rows as u64)?;
+    item(rt, c.of[feed::TAKEN as usize] as u64)?;
+    item(rt, c.of[feed::SHAPE as usize] as u64)?;
+    item(rt, c.of[feed::ZEROS as usize] as u64)?;
+    item(rt, c.of[feed::RANGE as usize] as u64)?;
+    item(rt, c.of[feed::HOST_BITS as usize] as u64)?;
+    item(rt, c.of[feed::REPLACED as usize] as u64)?;
+    item(rt, c.of[feed::NO_ROOM_LEFT as usize] as u64)?;
+    print::text(rt, b"\n")
 }
 
 // The slots that an import leaves: those of its report, its keys or its hops.
-#[derive(Drop)]
+#[derive(Clone, Copy)]
 pub enum Column {
     Report,
     Keys,
@@ -70,265 +71,321 @@ pub enum Column {
 }
 
 // A byte of the report on a line of numbers.
-fn row_number(n: u8) {
-    item(n as u64);
+fn row_number(rt: &impl Print, n: u8) -> io::Result<()> {
+    item(rt, n as u64)
 }
 
 // A hop on a line of numbers.
-fn hop(h: u16) {
-    item(h as u64);
+fn hop(rt: &impl Print, h: u16) -> io::Result<()> {
+    item(rt, h as u64)
 }
 
 // A key, as its prefix, on a line of them.
-fn key(k: u64) {
-    print::text(b" ");
-    print::prefix(k);
+fn key(rt: &impl Print, k: u64) -> io::Result<()> {
+    print::text(rt, b" ")?;
+    print::prefix(rt, k)
 }
 
 // One slot of a column, if it has one at this place.
-fn slot(column: Column, i: usize, report: &[u8], keys: &[u64], hops: &[u16]) {
+fn slot(
+    rt: &impl Print,
+    column: Column,
+    i: usize,
+    report: &[u8],
+    keys: &[u64],
+    hops: &[u16],
+) -> io::Result<()> {
     match column {
         Column::Report => {
             if i < report.len() {
-                row_number(report[i]);
+                row_number(rt, report[i])?;
             }
         }
         Column::Keys => {
             if i < keys.len() {
-                key(keys[i]);
+                key(rt, keys[i])?;
             }
         }
         Column::Hops => {
             if i < hops.len() {
-                hop(hops[i]);
+                hop(rt, hops[i])?;
             }
         }
     }
+    Ok(())
 }
 
 // A column's name and its first `count` slots, on a line.
-pub fn show(name: &[u8], column: Column, count: usize, report: &[u8], keys: &[u64], hops: &[u16]) {
-    print::text(name);
-    let mut i = 0;
-    while i < count {
-        slot(column, i, report, keys, hops);
-        i += 1;
+pub fn show(
+    rt: &impl Print,
+    name: &[u8],
+    column: Column,
+    count: usize,
+    report: &[u8],
+    keys: &[u64],
+    hops: &[u16],
+) -> io::Result<()> {
+    print::text(rt, name)?;
+    for i in 0..count {
+        slot(rt, column, i, report, keys, hops)?;
     }
-    print::text(b"\n");
+    print::text(rt, b"\n")
 }
 
 // An import, and what it leaves in all that it was lent.
-fn imported(feed: &[u8], keys: &mut [u64], hops: &mut [u16], report: &mut [u8]) {
+fn imported(
+    rt: &impl Print,
+    feed: &[u8],
+    keys: &mut [u64],
+    hops: &mut [u16],
+    report: &mut [u8],
+) -> io::Result<()> {
     let i = feed::import(feed, keys, hops, report);
     let end = i.end;
     let c = i.counts;
     match end {
-        ImportEnd::Done => counts(0, c),
-        ImportEnd::ReportShort => counts(12, c),
+        ImportEnd::Done => counts(rt, 0, c)?,
+        ImportEnd::ReportShort => counts(rt, 12, c)?,
     }
-    show(b"report", Column::Report, report.len(), report, keys, hops);
-    show(b"keys", Column::Keys, keys.len(), report, keys, hops);
-    show(b"hops", Column::Hops, hops.len(), report, keys, hops);
+    show(
+        rt,
+        b"report",
+        Column::Report,
+        report.len(),
+        report,
+        keys,
+        hops,
+    )?;
+    show(rt, b"keys", Column::Keys, keys.len(), report, keys, hops)?;
+    show(rt, b"hops", Column::Hops, hops.len(), report, keys, hops)
 }
 
 // An import into slots that hold what nothing has written, `k` for keys, `h` for hops and `r` for the report.
-fn import(name: &[u8], feed: &[u8], k: usize, h: usize, r: usize)
+fn import(rt: &impl Print, name: &[u8], feed: &[u8], k: usize, h: usize, r: usize) -> io::Result<()>
     requires { (k ≤ 16) × (h ≤ 16) × (r ≤ 16) }
 {
-    print::text(b"# Import: ");
-    print::text(name);
-    print::text(b"\n");
+    print::text(rt, b"# Import: ")?;
+    print::text(rt, name)?;
+    print::text(rt, b"\n")?;
     let mut keys = [UNWRITTEN; 16];
     let mut hops = [9u16; 16];
     let mut report = [9u8; 16];
-    imported(feed, &mut keys[..k], &mut hops[..h], &mut report[..r]);
+    imported(rt, feed, &mut keys[..k], &mut hops[..h], &mut report[..r])
 }
 
 // The rows of rule 13.5, and where rows begin and end.
-fn import_rows() {
+fn import_rows(rt: &impl Print) -> io::Result<()> {
     import(
+        rt,
         b"the five rows of document 01",
         b"10.0.0.0/8 7\n10.0.0.1/8 7\n10.0.0.0/8 9\n\n10.1.0.0/16 70000\n",
         3,
         3,
         6,
-    );
-    import(b"0 bytes", b"", 2, 2, 2);
-    import(b"only LFs", b"\n\n\n", 2, 2, 4);
-    import(b"no LF at all", b"1.0.0.0/8 1", 2, 2, 2);
+    )?;
+    import(rt, b"0 bytes", b"", 2, 2, 2)?;
+    import(rt, b"only LFs", b"\n\n\n", 2, 2, 4)?;
+    import(rt, b"no LF at all", b"1.0.0.0/8 1", 2, 2, 2)?;
     import(
+        rt,
         b"no LF after the last row",
         b"1.0.0.0/8 1\n2.0.0.0/8 2",
         3,
         3,
         3,
-    );
-    import(b"an empty row first", b"\n1.0.0.0/8 1\n", 2, 2, 3);
+    )?;
+    import(rt, b"an empty row first", b"\n1.0.0.0/8 1\n", 2, 2, 3)?;
     import(
+        rt,
         b"keys in order",
         b"3.0.0.0/8 3\n1.0.0.0/16 1\n2.0.0.0/8 2\n1.0.0.0/8 4\n",
         5,
         5,
         4,
-    );
+    )
 }
 
 // Rule 3.3: rows that aren't of the form.
-fn import_shapes() {
-    import(b"NUL", b"\0\n1.0.0.0/8 1\0\n1.0.0.0\0/8 1\n", 2, 2, 4);
+fn import_shapes(rt: &impl Print) -> io::Result<()> {
+    import(rt, b"NUL", b"\0\n1.0.0.0/8 1\0\n1.0.0.0\0/8 1\n", 2, 2, 4)?;
     import(
+        rt,
         b"byte 255",
         b"\xff\n1.0.0.0/8 1\xff\n\xff1.0.0.0/8 1\n",
         2,
         2,
         4,
-    );
-    import(b"CR", b"1.0.0.0/8 1\r\n\r\n2.0.0.0/8 2\n", 2, 2, 4);
+    )?;
+    import(rt, b"CR", b"1.0.0.0/8 1\r\n\r\n2.0.0.0/8 2\n", 2, 2, 4)?;
     import(
+        rt,
         b"tab",
         b"1.0.0.0/8\t1\n1.0.0.0/8 1\t\n\t1.0.0.0/8 1\n",
         2,
         2,
         4,
-    );
+    )?;
     import(
+        rt,
         b"spaces",
         b"1.0.0.0/8  1\n 1.0.0.0/8 1\n1.0.0.0/8 1 \n1.0.0.0 /8 1\n1.0.0.0/81\n",
         2,
         2,
         6,
-    );
+    )?;
     import(
+        rt,
         b"parts missing",
         b"1.0.0.0/8 \n1.0.0.0/ 1\n1.0.0/8 1\n1.0.0./8 1\n.0.0.0/8 1\n1.0.0.0.0/8 1\n1.0.0.0 1\n",
         2,
         2,
         8,
-    );
+    )?;
     let digits = [b'1'; 400];
-    import(b"a very long row", &digits, 2, 2, 2);
+    import(rt, b"a very long row", &digits, 2, 2, 2)?;
     import(
+        rt,
         b"a long row before a good one",
         b"1.0.0.0/8 1111111111111111111111111111111111111111111111111111111111111111\n2.0.0.0/8 2\n",
         2,
         2,
         3,
-    );
+    )
 }
 
 // Rules 3.4 and 3.7: rows of the form whose numbers are at or past an end.
-fn import_values() {
+fn import_values(rt: &impl Print) -> io::Result<()> {
     import(
+        rt,
         b"octets",
         b"255.255.255.255/32 1\n256.0.0.0/8 1\n999.0.0.0/8 1\n1000.0.0.0/8 1\n0.0.0.256/32 1\n0.0.0.1000/32 1\n",
         2,
         2,
         7,
-    );
+    )?;
     import(
+        rt,
         b"lengths",
         b"0.0.0.0/0 1\n0.0.0.0/32 2\n0.0.0.0/33 1\n0.0.0.0/99 1\n0.0.0.0/100 1\n0.0.0.0/032 1\n",
         3,
         3,
         7,
-    );
+    )?;
     import(
+        rt,
         b"hops",
         b"1.0.0.0/8 65535\n2.0.0.0/8 65536\n3.0.0.0/8 70000\n4.0.0.0/8 100000\n5.0.0.0/8 0\n6.0.0.0/8 00000\n7.0.0.0/8 000001\n",
         2,
         2,
         9,
-    );
+    )?;
     import(
+        rt,
         b"leading zeros",
         b"010.000.00.0/08 00007\n10.0.0.0/8 9\n001.002.003.000/24 01\n10.0.0.0/8 00\n0.0.0.0/0 100\n",
         3,
         3,
         6,
-    );
+    )?;
     import(
+        rt,
         b"zeros after shape and before range",
         b"010.0.0.256/8 7\n010.0.0.0/8 7x\n10.0.0.0/033 7\n10.0.0.1/08 0\n",
         2,
         2,
         5,
-    );
+    )
 }
 
 // Rules 3.6 and 3.7: host bits, and the order of faults.
-fn import_faults() {
+fn import_faults(rt: &impl Print) -> io::Result<()> {
     import(
+        rt,
         b"host bits",
         b"10.0.0.1/8 1\n10.0.0.1/31 1\n10.0.0.1/32 1\n128.0.0.0/0 1\n128.0.0.0/1 2\n0.0.0.1/0 1\n",
         3,
         3,
         7,
-    );
+    )?;
     import(
+        rt,
         b"shape before range before host bits",
         b"999.2.3.4/5 6x\n999.2.3.4/5 6\n1.2.3.4/5 6\n1.2.3.4/5 0\n",
         2,
         2,
         5,
-    );
+    )
 }
 
 // Rule 3.8: rooms.
-fn import_rooms() {
+fn import_rooms(rt: &impl Print) -> io::Result<()> {
     import(
+        rt,
         b"slices of length 0",
         b"1.0.0.0/8 1\n\n1.0.0.0/8 1\n",
         0,
         0,
         4,
-    );
-    import(b"keys of length 0", b"1.0.0.0/8 1\n", 0, 2, 2);
-    import(b"hops of length 0", b"1.0.0.0/8 1\n", 2, 0, 2);
+    )?;
+    import(rt, b"keys of length 0", b"1.0.0.0/8 1\n", 0, 2, 2)?;
+    import(rt, b"hops of length 0", b"1.0.0.0/8 1\n", 2, 0, 2)?;
     import(
+        rt,
         b"more keys than hops",
         b"3.0.0.0/8 3\n2.0.0.0/8 2\n1.0.0.0/8 1\n",
         4,
         2,
         4,
-    );
+    )?;
     import(
+        rt,
         b"more hops than keys",
         b"3.0.0.0/8 3\n2.0.0.0/8 2\n1.0.0.0/8 1\n",
         2,
         4,
         4,
-    );
+    )?;
     import(
+        rt,
         b"replaced rows, and no room",
         b"1.0.0.0/8 1\n2.0.0.0/8 2\n2.0.0.0/8 3\n1.0.0.0/8 4\n2.0.0.0/9 5\n\n2.0.0.1/8 6\n",
         1,
         1,
         8,
-    );
+    )
 }
 
 // Rules 4.4 and 4.7: reports.
-fn import_reports() {
+fn import_reports(rt: &impl Print) -> io::Result<()> {
     import(
+        rt,
         b"a report as long as the rows",
         b"1.0.0.0/8 1\n\n2.0.0.0/8 2",
         3,
         3,
         3,
-    );
+    )?;
     import(
+        rt,
         b"a report one byte short",
         b"1.0.0.0/8 1\n\n2.0.0.0/8 2",
         3,
         3,
         2,
-    );
-    import(b"a report of length 0", b"\n", 1, 1, 0);
-    import(b"a report of length 0 for 0 bytes", b"", 1, 1, 0);
+    )?;
+    import(rt, b"a report of length 0", b"\n", 1, 1, 0)?;
+    import(rt, b"a report of length 0 for 0 bytes", b"", 1, 1, 0)
 }
 
 // The number that a build returns, the count of runs, and every slot that it was lent.
-fn built(count: usize, keys: &[u64], hops: &[u16], starts: &mut [u32], rhops: &mut [u16]) {
+fn built(
+    rt: &impl Print,
+    count: usize,
+    keys: &[u64],
+    hops: &[u16],
+    starts: &mut [u32],
+    rhops: &mut [u16],
+) -> io::Result<()> {
     let mut number = 0;
     let mut n = 0;
     match runs::build(count, keys, hops, starts, rhops) {
@@ -336,114 +393,134 @@ fn built(count: usize, keys: &[u64], hops: &[u16], starts: &mut [u32], rhops: &m
         Built::IllFormed => number = 11,
         Built::NoRoom => number = 13,
     }
-    print::line(b"number", number);
-    print::line(b"runs", n as u64);
-    print::runs(starts.len(), starts, rhops);
+    print::line(rt, b"number", number)?;
+    print::line(rt, b"runs", n as u64)?;
+    print::runs(rt, starts.len(), starts, rhops)
 }
 
 // The run table of a feed's list, built into `room` slots that hold what nothing has written.
-fn build(name: &[u8], feed: &[u8], room: usize)
+fn build(rt: &impl Print, name: &[u8], feed: &[u8], room: usize) -> io::Result<()>
     requires { room ≤ 16 }
 {
-    print::text(b"# Run table: ");
-    print::text(name);
-    print::text(b"\n");
+    print::text(rt, b"# Run table: ")?;
+    print::text(rt, name)?;
+    print::text(rt, b"\n")?;
     let mut keys = [0u64; 8];
     let mut hops = [0u16; 8];
     let mut report = [0u8; 8];
     let i = feed::import(feed, &mut keys, &mut hops, &mut report);
     let end = i.end;
     let ImportEnd::Done = end else {
-        return;
+        return Ok(());
     };
     let c = i.counts;
     let count = c.of[feed::TAKEN as usize];
     let mut starts = [151587081u32; 16];
     let mut rhops = [9u16; 16];
-    built(count, &keys, &hops, &mut starts[..room], &mut rhops[..room]);
+    built(
+        rt,
+        count,
+        &keys,
+        &hops,
+        &mut starts[..room],
+        &mut rhops[..room],
+    )
 }
 
 // Rules 14.4, 14.7 and 14.8: the run tables of list A.
-fn builds_of_a() {
+fn builds_of_a(rt: &impl Print) -> io::Result<()> {
     build(
+        rt,
         b"list A",
         b"200.24.0.0/14 1\n200.26.0.0/15 2\n200.27.0.0/16 3\n200.27.64.0/18 1\n200.27.112.0/20 2\n200.27.128.0/20 1\n200.27.240.0/20 2\n",
         12,
-    );
+    )?;
     build(
+        rt,
         b"list A in as many slots as it has runs",
         b"200.24.0.0/14 1\n200.26.0.0/15 2\n200.27.0.0/16 3\n200.27.64.0/18 1\n200.27.112.0/20 2\n200.27.128.0/20 1\n200.27.240.0/20 2\n",
         10,
-    );
+    )?;
     build(
+        rt,
         b"list A in one slot less",
         b"200.24.0.0/14 1\n200.26.0.0/15 2\n200.27.0.0/16 3\n200.27.64.0/18 1\n200.27.112.0/20 2\n200.27.128.0/20 1\n200.27.240.0/20 2\n",
         9,
-    );
+    )?;
     build(
+        rt,
         b"A without 200.27.64.0/18",
         b"200.24.0.0/14 1\n200.26.0.0/15 2\n200.27.0.0/16 3\n200.27.112.0/20 2\n200.27.128.0/20 1\n200.27.240.0/20 2\n",
         10,
-    );
+    )?;
     build(
+        rt,
         b"A with 200.27.224.0/19 hop 1",
         b"200.24.0.0/14 1\n200.26.0.0/15 2\n200.27.0.0/16 3\n200.27.64.0/18 1\n200.27.112.0/20 2\n\
           200.27.128.0/20 1\n200.27.224.0/19 1\n200.27.240.0/20 2\n",
         12,
-    );
+    )?;
     build(
+        rt,
         b"A with 200.27.224.0/19 hop 3",
         b"200.24.0.0/14 1\n200.26.0.0/15 2\n200.27.0.0/16 3\n200.27.64.0/18 1\n200.27.112.0/20 2\n\
           200.27.128.0/20 1\n200.27.224.0/19 3\n200.27.240.0/20 2\n",
         12,
-    );
+    )
 }
 
 // Rule 14.11: the other run tables. Rule 15.1: a route whose loss makes more runs. And corners.
-fn builds_of_corners() {
-    build(b"the empty list", b"", 2);
-    build(b"the empty list in no slot", b"", 0);
+fn builds_of_corners(rt: &impl Print) -> io::Result<()> {
+    build(rt, b"the empty list", b"", 2)?;
+    build(rt, b"the empty list in no slot", b"", 0)?;
     build(
+        rt,
         b"only 255.255.255.255/32 hop 5",
         b"255.255.255.255/32 5\n",
         3,
-    );
-    build(b"0.0.0.0/0 hop 4", b"0.0.0.0/0 4\n", 2);
+    )?;
+    build(rt, b"0.0.0.0/0 hop 4", b"0.0.0.0/0 4\n", 2)?;
     build(
+        rt,
         b"a route between two siblings of its hop, under a parent of another",
         b"10.0.0.0/8 1\n10.0.0.0/16 2\n10.1.0.0/16 2\n10.2.0.0/16 2\n",
         5,
-    );
+    )?;
     build(
+        rt,
         b"the same without it",
         b"10.0.0.0/8 1\n10.0.0.0/16 2\n10.2.0.0/16 2\n",
         7,
-    );
+    )
 }
 
 // Up to 16 slots of a column, after its name on a line.
-fn slots(name: &[u8], column: &[u16]) {
-    print::text(name);
-    let mut i = 0;
-    while i < 16 {
-        if i < column.len() {
-            hop(column[i]);
-        }
-        i += 1;
+fn slots(rt: &impl Print, name: &[u8], column: &[u16]) -> io::Result<()> {
+    print::text(rt, name)?;
+    for h in column.iter().take(16) {
+        hop(rt, *h)?;
     }
-    print::text(b"\n");
+    print::text(rt, b"\n")
 }
 
 // What a packed segment answers at an address.
-fn in_packed(width: u32, words: &[u16], bases: &[u16], hops: &[u16], a: u32) {
+fn in_packed(
+    rt: &impl Print,
+    width: u32,
+    words: &[u16],
+    bases: &[u16],
+    hops: &[u16],
+    a: u32,
+) -> io::Result<()> {
     match packed::packed_lookup(width, words, bases, hops, a) {
-        PackedHop::Hop(hop) => print::answer(a, hop),
-        PackedHop::Outside => print::text(b"19\n"),
+        PackedHop::Hop(hop) => print::answer(rt, a, hop),
+        PackedHop::Outside => print::text(rt, b"19\n"),
     }
 }
 
 // A packing's number, the width, the counts of words and of hops, and the first slots of each slice that it was lent.
 fn packed(
+    rt: &impl Print,
     number: u64,
     width: u64,
     word_count: u64,
@@ -451,26 +528,35 @@ fn packed(
     words: &[u16],
     bases: &[u16],
     hops: &[u16],
-) {
-    print::line(b"number", number);
-    print::line(b"width", width);
-    print::line(b"word count", word_count);
-    print::line(b"hop count", hop_count);
-    slots(b"words", words);
-    slots(b"bases", bases);
-    slots(b"hops", hops);
+) -> io::Result<()> {
+    print::line(rt, b"number", number)?;
+    print::line(rt, b"width", width)?;
+    print::line(rt, b"word count", word_count)?;
+    print::line(rt, b"hop count", hop_count)?;
+    slots(rt, b"words", words)?;
+    slots(rt, b"bases", bases)?;
+    slots(rt, b"hops", hops)
 }
 
 // Three answers of packed segment q: at its ends, and at the address `a`.
-fn answers(q: u16, a: u32, width: u32, words: &[u16], bases: &[u16], hops: &[u16]) {
+fn answers(
+    rt: &impl Print,
+    q: u16,
+    a: u32,
+    width: u32,
+    words: &[u16],
+    bases: &[u16],
+    hops: &[u16],
+) -> io::Result<()> {
     let first = (q as u32) * 65536;
-    in_packed(width, words, bases, hops, first);
-    in_packed(width, words, bases, hops, a);
-    in_packed(width, words, bases, hops, first + 65535);
+    in_packed(rt, width, words, bases, hops, first)?;
+    in_packed(rt, width, words, bases, hops, a)?;
+    in_packed(rt, width, words, bases, hops, first + 65535)
 }
 
 // Segment q of a list packed, and answers of the packed segment.
 fn packing(
+    rt: &impl Print,
     q: u16,
     a: u32,
     count: usize,
@@ -482,24 +568,32 @@ fn packing(
     words: &mut [u16],
     bases: &mut [u16],
     out: &mut [u16],
-) {
+) -> io::Result<()> {
     match segment::pack(q, count, keys, hops, runs, starts, rhops, words, bases, out) {
         Packing::Done {
             width,
             words: n,
             hops: m,
         } => {
-            packed(0, width, n as u64, m as u64, words, bases, out);
-            answers(q, a, (width % 32) as u32, words, bases, out);
+            packed(rt, 0, width, n as u64, m as u64, words, bases, out)?;
+            answers(rt, q, a, (width % 32) as u32, words, bases, out)
         }
-        Packing::IllFormed => packed(11, 0, 0, 0, words, bases, out),
-        Packing::NotItsRuns => packed(14, 0, 0, 0, words, bases, out),
-        Packing::NoRoom => packed(13, 0, 0, 0, words, bases, out),
+        Packing::IllFormed => packed(rt, 11, 0, 0, 0, words, bases, out),
+        Packing::NotItsRuns => packed(rt, 14, 0, 0, 0, words, bases, out),
+        Packing::NoRoom => packed(rt, 13, 0, 0, 0, words, bases, out),
     }
 }
 
 // Segment q of a feed's list packed, where the list has at most 8 rows.
-fn of_feed(feed: &[u8], q: u16, a: u32, words: &mut [u16], bases: &mut [u16], out: &mut [u16]) {
+fn of_feed(
+    rt: &impl Print,
+    feed: &[u8],
+    q: u16,
+    a: u32,
+    words: &mut [u16],
+    bases: &mut [u16],
+    out: &mut [u16],
+) -> io::Result<()> {
     let mut keys = [0u64; 8];
     let mut hops = [0u16; 8];
     let mut report = [0u8; 8];
@@ -510,29 +604,46 @@ fn of_feed(feed: &[u8], q: u16, a: u32, words: &mut [u16], bases: &mut [u16], ou
     let mut rhops = [0u16; 17];
     match runs::build(count, &keys, &hops, &mut starts, &mut rhops) {
         Built::Runs(n) => packing(
-            q, a, count, &keys, &hops, n, &starts, &rhops, words, bases, out,
+            rt, q, a, count, &keys, &hops, n, &starts, &rhops, words, bases, out,
         ),
-        Built::IllFormed => print::text(b"run table refused\n"),
-        Built::NoRoom => print::text(b"run table refused\n"),
+        Built::IllFormed => print::text(rt, b"run table refused\n"),
+        Built::NoRoom => print::text(rt, b"run table refused\n"),
     }
 }
 
 // Segment q of a feed's list, packed into `w` words and bases and `h` hops that hold what nothing has written.
-fn pack(name: &[u8], feed: &[u8], q: u16, a: u32, w: usize, h: usize)
+fn pack(
+    rt: &impl Print,
+    name: &[u8],
+    feed: &[u8],
+    q: u16,
+    a: u32,
+    w: usize,
+    h: usize,
+) -> io::Result<()>
     requires { (w ≤ 4096) × (h ≤ 16) }
 {
-    print::text(b"# Packed segment: ");
-    print::text(name);
-    print::text(b"\n");
+    print::text(rt, b"# Packed segment: ")?;
+    print::text(rt, name)?;
+    print::text(rt, b"\n")?;
     let mut words = [9u16; 4096];
     let mut bases = [9u16; 4096];
     let mut out = [9u16; 16];
-    of_feed(feed, q, a, &mut words[..w], &mut bases[..w], &mut out[..h]);
+    of_feed(
+        rt,
+        feed,
+        q,
+        a,
+        &mut words[..w],
+        &mut bases[..w],
+        &mut out[..h],
+    )
 }
 
 // Rule 14.6: the packed segment of A with a prefix that changes the width and no answer. And the least and the greatest width.
-fn packings() {
+fn packings(rt: &impl Print) -> io::Result<()> {
     pack(
+        rt,
         b"51227 of A with 200.27.240.0/21 hop 2",
         b"200.24.0.0/14 1\n200.26.0.0/15 2\n200.27.0.0/16 3\n200.27.64.0/18 1\n200.27.112.0/20 2\n\
           200.27.128.0/20 1\n200.27.240.0/20 2\n200.27.240.0/21 2\n",
@@ -540,8 +651,9 @@ fn packings() {
         3357241514,
         3,
         7,
-    );
+    )?;
     pack(
+        rt,
         b"the same in one hop less than it takes",
         b"200.24.0.0/14 1\n200.26.0.0/15 2\n200.27.0.0/16 3\n200.27.64.0/18 1\n200.27.112.0/20 2\n\
           200.27.128.0/20 1\n200.27.240.0/20 2\n200.27.240.0/21 2\n",
@@ -549,36 +661,38 @@ fn packings() {
         3357241514,
         2,
         5,
-    );
+    )?;
     pack(
+        rt,
         b"2624 inside 10.0.0.0/8, width 0",
         b"10.0.0.0/8 7\n10.65.0.1/32 5\n",
         2624,
         171996926,
         2,
         2,
-    );
+    )?;
     pack(
+        rt,
         b"2624 with 10.64.0.1/32 and 10.64.255.255/32, width 16",
         b"10.0.0.0/8 7\n10.64.0.1/32 5\n10.64.255.255/32 9\n",
         2624,
         171966465,
         4096,
         4,
-    );
-    pack(b"65535 of the empty list", b"", 65535, 4294967294, 1, 1);
+    )?;
+    pack(rt, b"65535 of the empty list", b"", 65535, 4294967294, 1, 1)
 }
 
-fn main() {
-    plain_answers();
-    import_rows();
-    import_shapes();
-    import_values();
-    import_faults();
-    import_rooms();
-    import_reports();
-    builds_of_a();
-    builds_of_corners();
-    packings();
-    edits::edits();
+fn main(rt: HostRuntime) -> io::Result<()> {
+    plain_answers(&rt)?;
+    import_rows(&rt)?;
+    import_shapes(&rt)?;
+    import_values(&rt)?;
+    import_faults(&rt)?;
+    import_rooms(&rt)?;
+    import_reports(&rt)?;
+    builds_of_a(&rt)?;
+    builds_of_corners(&rt)?;
+    packings(&rt)?;
+    edits::edits(&rt)
 }

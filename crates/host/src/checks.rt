@@ -7,8 +7,7 @@ ghost use Rattle.runs.specs.Pair.{pair, pair_check};
 use c_answers::pair_for_c;
 
 // Rule 8.4: the pair check of a list and a run table.
-#[unsafe(no_mangle)]
-pub extern "C" fn whelk_pair_check(
+pub fn whelk_pair_check(
     count: usize,
     keys: &[u64],
     hops: &[u16],

@@ -9,8 +9,7 @@ ghost use Rattle.edit.specs.Edit.{announce, withdraw};
 use c_structs::edits::{WhelkEdit, edit_for_c};
 
 // Rule 10.1: a prefix gets a row with the hop, or its row the hop, in a lent list and its run table.
-#[unsafe(no_mangle)]
-pub extern "C" fn whelk_announce(
+pub fn whelk_announce(
     net: u32,
     len: u32,
     hop: u16,
@@ -29,8 +28,7 @@ pub extern "C" fn whelk_announce(
 }
 
 // Rule 10.1: a listed prefix loses its row, in a lent list and its run table.
-#[unsafe(no_mangle)]
-pub extern "C" fn whelk_withdraw(
+pub fn whelk_withdraw(
     net: u32,
     len: u32,
     count: usize,

@@ -9,8 +9,7 @@ use c_structs::pulls::{WhelkRow, pull_for_c};
 use feed::Counts;
 
 // Rule 4.11: the row of a feed from a place on, and the place behind it.
-#[unsafe(no_mangle)]
-pub extern "C" fn whelk_pull(feed: &[u8], place: usize) -> WhelkRow
+pub fn whelk_pull(feed: &[u8], place: usize) -> WhelkRow
     ensures { result ≡ pull_for_c (pull feed.now place) }
 {
     let p = rows::pull_at(feed, place);
@@ -19,8 +18,7 @@ pub extern "C" fn whelk_pull(feed: &[u8], place: usize) -> WhelkRow
 }
 
 // Rule 4.9: import of a feed into lent keys, hops and report, with the counts in a lent tally.
-#[unsafe(no_mangle)]
-pub extern "C" fn whelk_import_tally(
+pub fn whelk_import_tally(
     feed: &[u8],
     keys: &mut [u64],
     hops: &mut [u16],
@@ -28,8 +26,8 @@ pub extern "C" fn whelk_import_tally(
     tally: &mut Counts,
 ) -> usize
     ensures { HostTallyGave feed.now
-        (record { keys = keys.entry.now; hops = hops.old; report = report.old }) tally.old
-        result keys.exit.now hops.new report.new tally.new }
+        (record { keys = keys.old; hops = hops.old; report = report.old }) tally.old
+        result keys.new hops.new report.new tally.new }
 {
     let end = feed::import_tally(feed, keys, hops, report, tally);
     number_of(end)

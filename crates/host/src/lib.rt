@@ -1,5 +1,5 @@
 // The C interface: the library's entries over memory that the host lends, each with one number or one plain struct back. It adds no rule
-// but 7.9, 7.10 and 18.6; include/whelkhollow.h declares what is exported here.
+// but 7.9, 7.10 and 18.6. `host_c` exports the entries to C, under these names.
 #![tactic(auto)]
 
 pub mod checks;
@@ -32,31 +32,28 @@ use c_structs::{WhelkCounts, WhelkPacked, counts_for_c, packing_for_c};
 use lookup::Held;
 
 // Rule 4.1: import of a feed into lent keys, hops and report.
-#[unsafe(no_mangle)]
-pub extern "C" fn whelk_import(
+pub fn whelk_import(
     feed: &[u8],
     keys: &mut [u64],
     hops: &mut [u16],
     report: &mut [u8],
 ) -> WhelkCounts
-    ensures { host_import_gave result keys.exit.now hops.new report.new
+    ensures { host_import_gave result keys.new hops.new report.new
         ≡ import feed.now
-        (record { keys = keys.entry.now; hops = hops.old; report = report.old }) }
+        (record { keys = keys.old; hops = hops.old; report = report.old }) }
 {
     counts_for_c(feed::import(feed, keys, hops, report))
 }
 
 // Rule 2.13: the plain answer of a list at an address.
-#[unsafe(no_mangle)]
-pub extern "C" fn whelk_plain_lookup(count: usize, keys: &[u64], hops: &[u16], a: u32) -> u32
+pub fn whelk_plain_lookup(count: usize, keys: &[u64], hops: &[u16], a: u32) -> u32
     ensures { result ≡ lookup_for_c (plain_lookup (list_lent count keys.now hops.now) a) }
 {
     lookup_for_c(routes::plain_lookup(count, keys, hops, a))
 }
 
 // Rules 7.8 and 7.9: lookup over run bytes, with the last address in the first four lent bytes; 13 for fewer.
-#[unsafe(no_mangle)]
-pub extern "C" fn whelk_run_lookup(bytes: &[u8], a: u32, out: &mut [u8]) -> u32
+pub fn whelk_run_lookup(bytes: &[u8], a: u32, out: &mut [u8]) -> u32
     ensures { held_gave_c result out.new ≡ held_for_c bytes.now a out.old }
 {
     match lookup::bytes_lookup(bytes, a) {
@@ -72,14 +69,7 @@ pub extern "C" fn whelk_run_lookup(bytes: &[u8], a: u32, out: &mut [u8]) -> u32
 }
 
 // Rule 7.4: run lookup over the first `n` runs of lent starts and hops, with the last address in a lent number.
-#[unsafe(no_mangle)]
-pub extern "C" fn whelk_run_lookup_slices(
-    n: usize,
-    starts: &[u32],
-    hops: &[u16],
-    a: u32,
-    out: &mut u32,
-) -> u64
+pub fn whelk_run_lookup_slices(n: usize, starts: &[u32], hops: &[u16], a: u32, out: &mut u32) -> u64
     ensures { probed_gave_c result out.new
         ≡ probed_for_c (run_lookup (runs_lent n starts.now hops.now) a) out.old }
 {
@@ -87,8 +77,7 @@ pub extern "C" fn whelk_run_lookup_slices(
 }
 
 // Rule 6.6: the run table of a list into lent starts and hops.
-#[unsafe(no_mangle)]
-pub extern "C" fn whelk_build(
+pub fn whelk_build(
     count: usize,
     keys: &[u64],
     hops: &[u16],
@@ -103,22 +92,14 @@ pub extern "C" fn whelk_build(
 }
 
 // Rules 9.10 to 9.13: lookup in a packed segment, by the last 16 bits of the address.
-#[unsafe(no_mangle)]
-pub extern "C" fn whelk_packed_lookup(
-    width: u32,
-    words: &[u16],
-    bases: &[u16],
-    hops: &[u16],
-    a: u32,
-) -> u32
+pub fn whelk_packed_lookup(width: u32, words: &[u16], bases: &[u16], hops: &[u16], a: u32) -> u32
     ensures { result ≡ lookup_for_c (packed_lookup (segment_lent width words.now bases.now hops.now) a) }
 {
     packed_for_c(packed::packed_lookup(width, words, bases, hops, a))
 }
 
 // Rule 9.9: segment q of a list and its run table into lent words, bases and hops.
-#[unsafe(no_mangle)]
-pub extern "C" fn whelk_pack(
+pub fn whelk_pack(
     q: u16,
     count: usize,
     keys: &[u64],
@@ -139,8 +120,7 @@ pub extern "C" fn whelk_pack(
 }
 
 // Rule 12.3: the text of a list at the front of a lent buffer.
-#[unsafe(no_mangle)]
-pub extern "C" fn whelk_write(count: usize, keys: &[u64], hops: &[u16], buffer: &mut [u8]) -> u64
+pub fn whelk_write(count: usize, keys: &[u64], hops: &[u16], buffer: &mut [u8]) -> u64
     ensures { write_gave_c result buffer.new
         ≡ write_for_c (write (list_lent count keys.now hops.now) buffer.old) }
 {
@@ -148,16 +128,14 @@ pub extern "C" fn whelk_write(count: usize, keys: &[u64], hops: &[u16], buffer: 
 }
 
 // Rule 11.8: the label of a half at an address.
-#[unsafe(no_mangle)]
-pub extern "C" fn whelk_half_lookup(count: usize, keys: &[u64], labels: &[u16], a: u32) -> u32
+pub fn whelk_half_lookup(count: usize, keys: &[u64], labels: &[u16], a: u32) -> u32
     ensures { result ≡ lookup_for_c (half_lookup (list_lent count keys.now labels.now) a) }
 {
     lookup_for_c(routes::half_lookup(count, keys, labels, a))
 }
 
 // Rule 11.10: the run table of a half, of its labels.
-#[unsafe(no_mangle)]
-pub extern "C" fn whelk_build_half(
+pub fn whelk_build_half(
     count: usize,
     keys: &[u64],
     labels: &[u16],
@@ -172,8 +150,7 @@ pub extern "C" fn whelk_build_half(
 }
 
 // Rule 11.7: the second half of a list, into lent keys and labels.
-#[unsafe(no_mangle)]
-pub extern "C" fn whelk_split(
+pub fn whelk_split(
     k: usize,
     count: usize,
     keys: &[u64],

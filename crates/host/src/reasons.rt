@@ -10,8 +10,7 @@ use c_answers::written_for_c;
 use c_structs::reasons::{WhelkReason, reason_for_c};
 
 // Rules 18.1 to 18.4: the places of the rows of a lent list that hold an address, into lent memory, and the reason.
-#[unsafe(no_mangle)]
-pub extern "C" fn whelk_why(
+pub fn whelk_why(
     count: usize,
     keys: &[u64],
     hops: &[u16],
@@ -25,14 +24,7 @@ pub extern "C" fn whelk_why(
 }
 
 // Rule 18.5: these rows as the list writer writes them, into a lent buffer.
-#[unsafe(no_mangle)]
-pub extern "C" fn whelk_why_text(
-    count: usize,
-    keys: &[u64],
-    hops: &[u16],
-    a: u32,
-    out: &mut [u8],
-) -> u64
+pub fn whelk_why_text(count: usize, keys: &[u64], hops: &[u16], a: u32, out: &mut [u8]) -> u64
     ensures { write_gave_c result out.new
         ≡ write_for_c (why_text (list_lent count keys.now hops.now) a out.old) }
 {

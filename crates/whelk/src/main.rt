@@ -2,10 +2,11 @@
 // proved. Only reading and writing are left here, of which no contract can speak.
 #![tactic(auto)]
 
-ghost use Rattle.io.specs.Counts.{IsPrefixLen as AtFront};
+ghost use Rattle.std.specs.Prelude.{◌≡◌, ◌≤◌, length, take};
+ghost use Rattle.std.specs.Io.KnownBytes.{Consumes};
 
-use libc::{STDERR_FILENO, STDIN_FILENO, STDOUT_FILENO};
 use program::{LONGEST_FEED, PROGRAM_TEXT, program_text};
+use std::io::{Input, Read};
 
 // How many bytes were read, and whether a read failed.
 #[derive(Drop)]
@@ -14,28 +15,30 @@ struct Fed {
     failed: bool,
 }
 
-// Reads standard input into the front of a buffer until that is full or the input ends. Rule 13.6: a read that fails is told apart from the
-// end, so that no part of a feed is taken for the whole.
-fn read_feed(input: &mut [u8]) -> Fed
-    ensures { AtFront result.bytes input.new }
+// Reads into the front of a buffer until that is full or the input ends. Rule 13.6: a read that fails is told apart from the end, so that
+// no part of a feed is taken for the whole.
+fn read_feed<R: Read>(from: &mut R, input: &mut [u8]) -> Fed
+    ensures in_room { result.bytes ≤ length input.new }
+    ensures at_front { result.bytes ≡ length (take result.bytes input.new) }
+    ensures bytes { Consumes (R.remaining from.old) (R.remaining from.new) (take result.bytes input.new) }
 {
     let mut bytes = 0;
     while bytes < input.len() {
-        let got = libc::read(STDIN_FILENO, &mut input[bytes..]);
-        if got < 0 {
-            return Fed {
-                bytes,
-                failed: true,
-            };
+        match from.read(&mut input[bytes..]) {
+            Ok(0) => {
+                return Fed {
+                    bytes,
+                    failed: false,
+                };
+            }
+            Ok(more) => bytes += more,
+            Err(_) => {
+                return Fed {
+                    bytes,
+                    failed: true,
+                };
+            }
         }
-        let more = io::count(got, &input[bytes..]);
-        if more == 0 {
-            return Fed {
-                bytes,
-                failed: false,
-            };
-        }
-        bytes += more;
     }
     Fed {
         bytes,
@@ -44,22 +47,22 @@ fn read_feed(input: &mut [u8]) -> Fed
 }
 
 // Writes to standard output. A write that fails is said on standard error.
-fn write(bytes: &[u8]) {
-    if !io::write_all(STDOUT_FILENO, bytes) {
-        io::write_all(STDERR_FILENO, b"whelk: write failed\n");
+fn write(rt: &(impl Print + Eprint), bytes: &[u8]) {
+    if rt.write_all(bytes).is_err() {
+        let _ = rt.eprintln("whelk: write failed");
     }
 }
 
 // Rule 13.1: one byte more is asked for, so that a feed that is too long is known.
-fn main() {
+fn main(rt: HostRuntime) {
     let mut input = [0u8; LONGEST_FEED + 1];
-    let fed = read_feed(&mut input);
+    let fed = read_feed(&mut rt.stdin(), &mut input);
     if fed.failed {
-        write(b"read failed\n");
+        write(&rt, b"read failed\n");
         return;
     }
     let n = fed.bytes;
     let mut out = [0u8; PROGRAM_TEXT];
     let bytes = program_text(&input[..n], &mut out);
-    write(&out[..bytes]);
+    write(&rt, &out[..bytes]);
 }
