@@ -23,6 +23,7 @@ fn bits_beyond(len: u64) -> u64
 }
 
 // Rule 2.7: whether a number is a key. Its length is at most 32, its network is an address and has no host bit that is 1.
+#[tactic(auto, using(crate::proofs::Bits::too_long, crate::proofs::Bits::outside, crate::proofs::Bits::aligned))]
 pub fn is_prefix(key: u64) -> bool
     ensures { result ≡ is_prefix key }
 {
