@@ -21,8 +21,8 @@ pub fn clue_key(len: u64, a: u64) -> u64
 // Rule 19.2: the hop of the longest listed match of a clue itself, or 0. For each length from the clue's down the key is looked for: at
 // most 33 searches.
 pub fn hop_around(keys: &[u64], hops: &[u16], a: u64, len: u64) -> u16
-    requires hops_value { well_formed (length keys.now) keys.now hops.now ≡ true }
-    requires len_bound { (len ≤ 32) × (a < addresses) }
+    requires well_formed_list { well_formed (length keys.now) keys.now hops.now ≡ true }
+    requires clue_in_range { (len ≤ 32) × (a < addresses) }
     ensures { result ≡ hop_around (rows_of (length keys.now) keys.now hops.now) (clue_of len a) }
 {
     let mut left = len + 1;
@@ -37,8 +37,8 @@ pub fn hop_around(keys: &[u64], hops: &[u16], a: u64, len: u64) -> u16
 
 // Rule 19.2: 1 if a longer listed prefix extends the clue, else 0. In key order such prefixes stand right behind the clue's place.
 pub fn extension(keys: &[u64], hops: &[u16], key: u64) -> u8
-    requires hops_value { well_formed (length keys.now) keys.now hops.now ≡ true }
-    requires key_value { is_prefix key ≡ true }
+    requires well_formed_list { well_formed (length keys.now) keys.now hops.now ≡ true }
+    requires key_is_prefix { is_prefix key ≡ true }
     ensures { result ≡ mark (extended (rows_of (length keys.now) keys.now hops.now) key) }
 {
     let next = match routes::place_of(keys, key) {

@@ -24,8 +24,8 @@ slice_bounds-write-end c = cut_keys _ _ _ (list_test _ _ _ _ c.if-not-list_ok.en
 pub slice_bounds-write-end-2 : goal.slice_bounds-write-end-2
 slice_bounds-write-end-2 c = cut_hops _ _ _ (list_test _ _ _ _ c.if-not-list_ok.ensures)
 
-pub write-n-requires-clause-hops_value : goal.write-n-requires-clause-hops_value
-write-n-requires-clause-hops_value c = cut_well _ _ _ (list_test _ _ _ _ c.if-not-list_ok.ensures)
+pub write-n-requires-clause-well_formed_list : goal.write-n-requires-clause-well_formed_list
+write-n-requires-clause-well_formed_list c = cut_well _ _ _ (list_test _ _ _ _ c.if-not-list_ok.ensures)
 
 pub returns : goal.returns
 returns c =
@@ -33,5 +33,5 @@ returns c =
     build_done _ _ _ _ (sym c.if-too_long.ensures) well _
     (omega (arith, leb-true _ _ (sym c.if-not-fits.ensures), c.entry_room-room.ensures))
     (cut_list _ _ _ well)
-    c.write-n.ensures.value
-    c.write-n.ensures.marks_after
+    c.write-n.ensures.count
+    c.write-n.ensures.entries_written

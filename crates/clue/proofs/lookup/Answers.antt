@@ -26,9 +26,9 @@ theirs : {b : Bool} (count : ℕ) (keys hops : List ℕ) (e : EntriesLent) → w
 theirs count keys hops e well is = sym (is ∙ ap (λ rows. its_entries rows e) (cut_list count keys hops well))
 
 -- the clue's place among the entries' keys, which ascend
-placed : {p : Place} {key clue : ℕ} (rows : List Row) (ekeys ehops marks : List ℕ) → its_entries rows (entries_lent ekeys ehops marks) ≡ true
-    → (ascends ekeys ≡ true → p ≡ place_in ekeys key) → key ≡ clue → place_in ekeys clue ≡ p
-placed rows ekeys ehops marks its is k = sym (is (its_ascend rows ekeys ehops marks its) ∙ ap (place_in ekeys) k)
+placed : {p found : Place} {key clue : ℕ} (rows : List Row) (ekeys ehops marks : List ℕ) → its_entries rows (entries_lent ekeys ehops marks) ≡ true
+    → (ascends ekeys ≡ true → found ≡ place_in ekeys key) → key ≡ clue → found ≡ p → place_in ekeys clue ≡ p
+placed rows ekeys ehops marks its is k arm = sym (sym arm ∙ is (its_ascend rows ekeys ehops marks its) ∙ ap (place_in ekeys) k)
 
 pub returns-then-len-gt32 : goal.returns-then-len-gt32
 returns-then-len-gt32 c = sym (hint_long _ _ _ _ c.if-len-gt32.true)
@@ -54,34 +54,34 @@ pub bounds-marks-at : goal.bounds-marks-at
 bounds-marks-at c =
     let well = list_test _ c.args.count c.args.keys.now c.args.hops.now c.if-not-list_ok.ensures in
     let its = theirs _ _ _ (entries_lent c.args.ekeys.now c.args.ehops.now c.args.marks.now) well c.if-not-entries_ok.ensures in
-    let place = placed _ _ _ _ its c.in-At.ensures c.clue_key.ensures in
+    let place = placed _ _ _ _ its c.place_of.ensures c.clue_key.ensures c.in-At.is in
     (its_place _ _ _ _ its _ _ place).1
 
 pub offset_bounds-ehops-at : goal.offset_bounds-ehops-at
 offset_bounds-ehops-at c =
     let well = list_test _ c.args.count c.args.keys.now c.args.hops.now c.if-not-list_ok.ensures in
     let its = theirs _ _ _ (entries_lent c.args.ekeys.now c.args.ehops.now c.args.marks.now) well c.if-not-entries_ok.ensures in
-    let place = placed _ _ _ _ its c.in-At.ensures c.clue_key.ensures in
+    let place = placed _ _ _ _ its c.place_of.ensures c.clue_key.ensures c.in-At.is in
     omega (arith, its_place _ _ _ _ its _ _ place)
 
 pub bounds-ehops-at : goal.bounds-ehops-at
 bounds-ehops-at c =
     let well = list_test _ c.args.count c.args.keys.now c.args.hops.now c.if-not-list_ok.ensures in
     let its = theirs _ _ _ (entries_lent c.args.ekeys.now c.args.ehops.now c.args.marks.now) well c.if-not-entries_ok.ensures in
-    let place = placed _ _ _ _ its c.in-At.ensures c.clue_key.ensures in
+    let place = placed _ _ _ _ its c.place_of.ensures c.clue_key.ensures c.in-At.is in
     (its_place _ _ _ _ its _ _ place).0
 
 pub returns-then-marks-at-eq0 : goal.returns-then-marks-at-eq0
 returns-then-marks-at-eq0 c =
     let well = list_test _ c.args.count c.args.keys.now c.args.hops.now c.if-not-list_ok.ensures in
     let its = theirs _ _ _ (entries_lent c.args.ekeys.now c.args.ehops.now c.args.marks.now) well c.if-not-entries_ok.ensures in
-    let place = placed _ _ _ _ its c.in-At.ensures c.clue_key.ensures in
+    let place = placed _ _ _ _ its c.place_of.ensures c.clue_key.ensures c.in-At.is in
     sym
     (hint_final _ _ _ _ c.if-len-gt32.false well its (final_at _ _ _ place c.if-marks-at-eq0.true)
     ∙ ap (λ h. hinted done h true) (stored_at _ _ _ place))
 
-pub hop_around-requires-clause-hops_value : goal.hop_around-requires-clause-hops_value
-hop_around-requires-clause-hops_value c = cut_well _ _ _ (list_test _ _ _ _ c.if-not-list_ok.ensures)
+pub hop_around-requires-clause-well_formed_list : goal.hop_around-requires-clause-well_formed_list
+hop_around-requires-clause-well_formed_list c = cut_well _ _ _ (list_test _ _ _ _ c.if-not-list_ok.ensures)
 
 pub returns : goal.returns
 returns c =
@@ -89,8 +89,8 @@ returns c =
     let its = theirs _ _ _ (entries_lent c.args.ekeys.now c.args.ehops.now c.args.marks.now) well c.if-not-entries_ok.ensures in
     let not_final : is_final (entries_lent c.args.ekeys.now c.args.ehops.now c.args.marks.now) (clue_of c.args.len c.args.a) ≡ false =
     elim c.match-place_of.branch [
-      | in-At+else-marks-at-eq0 w ↦ marked_at _ _ _ (placed _ _ _ _ its w.in-At.ensures c.clue_key.ensures) w.if-marks-at-eq0.false
-      | in_default w ↦ none_at _ _ _ (placed _ _ _ _ its w.in_default.ensures c.clue_key.ensures)
+      | in-At+else-marks-at-eq0 w ↦ marked_at _ _ _ (placed _ _ _ _ its c.place_of.ensures c.clue_key.ensures w.in-At.is) w.if-marks-at-eq0.false
+      | in_default w ↦ none_at _ _ _ (placed _ _ _ _ its c.place_of.ensures c.clue_key.ensures w.in_default.is)
     ] in
     ap (λ h. hinted done h false)
     (c.hop_around.ensures
