@@ -5,25 +5,17 @@ use mathlib.Core.Path.{sym, ap}
 use native.Mathlib.Omega.{arith}
 use lib.ListN.{length}
 use lib.Dec.{leb}
-use borrow.Author.Rules.{rules}
 use borrow.Author.Tests.{le-leb}
 use Rattle.routes.specs.Row.{rows_of}
 use Rattle.text.specs.Text.{text_of}
 use Rattle.text.proofs.Along.{network_small, text_at_most}
-use Rattle.text.proofs.text_fits.Statement.{statement}
-use Rattle.text.proofs.text_fits.Tie as tie
+use Rattle.text.proofs.text_fits.Goals as goal
 
-returns : tie.Need-returns-then-count-bytes
-returns c =
+pub returns-then-count-bytes : goal.returns-then-count-bytes
+returns-then-count-bytes c =
     let most = text_at_most c.args.count c.args.keys.now c.args.hops.now (network_small _ _ _ c.requires)
     (λ i. omega (arith, c.shared_slice_known-2-1.given i)) in
     sym (le-leb (length (text_of (rows_of c.args.count c.args.keys.now c.args.hops.now))) c.args.bytes (omega arith))
 
-text-length-requires : tie.Need-text_length-requires
-text-length-requires c κs = search rules
-
-returns-2 : tie.Need-returns
-returns-2 c = ap (λ n. leb n c.args.bytes) c.text_length.ensures
-
-pub text_fits_spec : {M : Type 1} → statement M
-text_fits_spec = tie.close (tie.spec returns text-length-requires returns-2)
+pub returns : goal.returns
+returns c = ap (λ n. leb n c.args.bytes) c.text_length.ensures
