@@ -1,0 +1,8 @@
+-- `host::whelk_half_lookup` meets its contract: the half lookup's outcome as one number.
+-- Assumes nothing.
+use mathlib.Core.Path.{ap, ◌∙◌}
+use Rattle.c_answers.specs.Exports.{lookup_for_c}
+use Rattle.host.proofs.whelk_half_lookup.Goals as goal
+
+pub returns : goal.returns
+returns c = c.lookup_for_c.ensures ∙ ap lookup_for_c c.half_lookup.ensures
