@@ -1,12 +1,13 @@
 -- `clue::lookup` meets its contract: the checks in their order, then what the clue's place among the entries says (`HintOutcomes`). The hop of
 -- the clue of all 32 bits, which the search finds, is the plain answer (`Final`).
 -- Assumes nothing.
-use Rattle.std.proofs.Common.{◌≡◌, Bool, true, false, ℕ, List, length, take, sym, ap, ◌∙◌, arith}
+use Rattle.std.proofs.Common.{rules, ◌≡◌, ◌<◌, Bool, true, false, ℕ, List, length, take, sym, ap, ◌∙◌, arith}
 use Rattle.ground.specs.Numbers.{done}
 use Rattle.ground.specs.Column.{ascends}
 use Rattle.routes.specs.Row.{Row, rows_of, list_lent, rows_lent}
 use Rattle.routes.specs.WellFormed.{well_formed}
 use Rattle.routes.specs.declared.Place.{Place}
+use Rattle.routes.specs.declared.Place.TheVariants.{At}
 use Rattle.routes.specs.Place.{place_in}
 use Rattle.entries.specs.Clue.{clue_of, hop_around}
 use Rattle.entries.specs.Entries.{EntriesLent, entries_lent, its_entries}
@@ -29,6 +30,11 @@ theirs count keys hops e well is = sym (is ∙ ap (λ rows. its_entries rows e) 
 placed : {p found : Place} {key clue : ℕ} (rows : List Row) (ekeys ehops marks : List ℕ) → its_entries rows (entries_lent ekeys ehops marks) ≡ true
     → (ascends ekeys ≡ true → found ≡ place_in ekeys key) → key ≡ clue → found ≡ p → place_in ekeys clue ≡ p
 placed rows ekeys ehops marks its is k arm = sym (sym arm ∙ is (its_ascend rows ekeys ehops marks its) ∙ ap (place_in ekeys) k)
+
+-- the clue's place among them has a mark
+marked_place : {found : Place} {key clue : ℕ} (rows : List Row) (ekeys ehops marks : List ℕ) → its_entries rows (entries_lent ekeys ehops marks) ≡ true
+    → (ascends ekeys ≡ true → found ≡ place_in ekeys key) → key ≡ clue → (at : ℕ) → found ≡ At at → at < length marks
+marked_place rows ekeys ehops marks its is k at arm = (its_place _ _ _ _ its _ _ (placed rows ekeys ehops marks its is k arm)).1
 
 pub returns-then-len-gt32 : goal.returns-then-len-gt32
 returns-then-len-gt32 c = sym (hint_long _ _ _ _ c.if-len-gt32.true)
@@ -54,8 +60,7 @@ pub bounds-marks-at : goal.bounds-marks-at
 bounds-marks-at c =
     let well = list_test _ c.args.count c.args.keys.now c.args.hops.now c.if-not-list_ok.ensures in
     let its = theirs _ _ _ (entries_lent c.args.ekeys.now c.args.ehops.now c.args.marks.now) well c.if-not-entries_ok.ensures in
-    let place = placed _ _ _ _ its c.place_of.ensures c.clue_key.ensures c.in-At.is in
-    (its_place _ _ _ _ its _ _ place).1
+    search (rules, marked_place _ _ _ _ its c.place_of.ensures c.clue_key.ensures)
 
 pub offset_bounds-ehops-at : goal.offset_bounds-ehops-at
 offset_bounds-ehops-at c =

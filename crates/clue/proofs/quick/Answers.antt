@@ -25,5 +25,5 @@ returns c =
     quick_found _ _ _ (quick_place_lem _ _ _ c.entry_room-n.ensures c.clue_key-key.ensures c.halve-place.ensures.0)
     (omega (arith, c.entry_room-n.ensures, c.halve-place.ensures))
     c.if-bits-gt32.false
-    (c.if-ekeys-place.false ∙ c.clue_key-key.ensures)
-    c.if-marks-place-ne0.false
+    (omega (arith, c.clue_key-key.ensures))
+    (omega arith)
