@@ -190,6 +190,7 @@ fn write_hops(starts: &[u32], rhops: &[u16], s: Walk, base: u64, size: u64, n: u
 
 // The width of a segment, from the keys of a list: they ascend, so those of the segment stand side by side, and the first is found by
 // halving.
+#[tactic(auto, using(crate::proofs::Widening::widening_start, crate::proofs::Widening::widening_end, crate::proofs::Widening::widening_behind, crate::proofs::Widening::widening_on))]
 fn width_of(keys: &[u64], q: u64) -> u64
     requires { (ascends keys.now ≡ true) × (q < 65536) }
     ensures { result ≡ width_in q keys.now }
