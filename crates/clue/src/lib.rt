@@ -180,7 +180,7 @@ fn halve(n: usize, ekeys: &[u64], k: u64) -> usize
 }
 
 // Rule 19.7: what entries say of a clue, by halving, whatever they are: a final hop, or that a search has to follow.
-#[tactic(auto, using(crate::proofs::QuickOutcomes::room_within))]
+#[tactic(auto, using(crate::proofs::QuickOutcomes::room_within, crate::proofs::QuickOutcomes::quick_long))]
 pub fn quick(ekeys: &[u64], ehops: &[u16], marks: &[u8], len: u32, a: u32) -> Told
     ensures { quick_gave result
         ≡ quick_lookup (entries_lent ekeys.now ehops.now marks.now) len a }

@@ -1,9 +1,9 @@
 // Rules 13.1 to 13.4: the program. It reads a feed from standard input and writes what `program` makes of it, every byte of which is
-// proved. Only reading and writing are left here, of which no contract can speak.
+// proved. Only reading and writing are left here: what is read is promised of any reader, and no contract can say what was written.
 #![tactic(auto)]
 
-ghost use Rattle.std.specs.Prelude.{◌≡◌, ◌≤◌, length, take};
-ghost use Rattle.std.specs.Io.KnownBytes.{Consumes};
+ghost use Rattle.std.specs.Prelude.{◌≡◌, ◌≤◌, ◌<◌, false, length, take};
+ghost use Rattle.std.specs.Io.KnownBytes.{Consumes, IsAtEnd};
 
 use program::{LONGEST_FEED, PROGRAM_TEXT, program_text};
 use std::io::{Input, Read};
@@ -21,6 +21,7 @@ fn read_feed<R: Read>(from: &mut R, input: &mut [u8]) -> Fed
     ensures in_room { result.bytes ≤ length input.new }
     ensures at_front { result.bytes ≡ length (take result.bytes input.new) }
     ensures bytes { Consumes (R.remaining from.old) (R.remaining from.new) (take result.bytes input.new) }
+    ensures whole { result.failed ≡ false → result.bytes < length input.new → IsAtEnd (R.remaining from.new) }
 {
     let mut bytes = 0;
     while bytes < input.len() {

@@ -1,14 +1,11 @@
 -- `clue::quick` meets its contract: what stands at the place where halving ends says which outcome it is (`QuickOutcomes`).
 -- Assumes nothing.
 use Rattle.std.proofs.Common.{sym, ◌∙◌, arith}
-use Rattle.clue.proofs.QuickOutcomes.{quick_empty, quick_long, quick_place_lem, quick_other, quick_marked, quick_found}
+use Rattle.clue.proofs.QuickOutcomes.{quick_empty, quick_place_lem, quick_other, quick_marked, quick_found}
 use Rattle.clue.proofs.quick.Goals as goal
 
 pub returns-then-n-eq0 : goal.returns-then-n-eq0
 returns-then-n-eq0 c = quick_empty _ _ _ (sym c.entry_room-n.ensures ∙ c.if-n-eq0.true)
-
-pub returns-then-bits-gt32 : goal.returns-then-bits-gt32
-returns-then-bits-gt32 c = quick_long _ _ _ c.if-bits-gt32.true
 
 pub returns-then-ekeys-place : goal.returns-then-ekeys-place
 returns-then-ekeys-place c =
