@@ -13,8 +13,8 @@ use Rattle.ground.specs.Stretch.{turns_from}
 use Rattle.ground.specs.Stretch.Count.{counted_at_most}
 use Rattle.ground.proofs.Truth.{never_both}
 use Rattle.ground.proofs.Ascends.{ascends_of}
-use Rattle.cidr.specs.Prefix.{network, length_of, size, end_of, is_prefix}
-use Rattle.cidr.proofs.Prefix.{prefix_parts, size_pos, end_within}
+use Rattle.cidr.specs.Prefix.{key_of, network, length_of, size, end_of, is_prefix}
+use Rattle.cidr.proofs.Prefix.{prefix_parts, network_key, size_pos, end_within}
 use Rattle.routes.specs.Row.{Row}
 use Rattle.routes.specs.Plain.{plain}
 use Rattle.routes.proofs.Row.{Has}
@@ -38,6 +38,13 @@ use Rattle.within.proofs.Nearest.{row_listed}
 use Rattle.within.proofs.Changed.{outer_fits, changed_own}
 use Rattle.plan.proofs.Edited.{edited_but_for, edited_half, edited_length}
 use Rattle.plan.proofs.Splicing.{splices, new_starts_lem, new_count, new_hops_lem}
+
+-- what a prefix is named by is its key's network, an address
+pub network_is : (net len : ℕ) → len ≤ 32 → net ≡ network (key_of net len)
+network_is net len short = sym (network_key net len (omega (arith, short)))
+
+pub network_small : (net len : ℕ) → is_prefix (key_of net len) ≡ true → len ≤ 32 → net < 4294967296
+network_small net len ok short = omega (arith, network_is net len short, (prefix_parts (key_of net len) ok).within)
 
 -- a list's run table
 pub old_table : (rows : List Row) {starts rhops : List ℕ} → starts ≡ run_starts rows → rhops ≡ run_hops rows → OldTable starts rhops
