@@ -1,8 +1,9 @@
 -- Rules 7.9 and 7.10: the one number that C gets of a lookup, a build, a list writer and a split, and what such a call leaves. A run lookup
 -- leaves the last address in lent memory.
 -- Assumes nothing.
-use Rattle.std.specs.Prelude.{cond, List, [], ◌∷◌, ℕ, ◌+◌, ◌*◌, ◌/◌, ◌%◌, eqb}
-use Rattle.ground.specs.Numbers.{done}
+use Rattle.std.specs.Prelude.{cond, List, [], ◌∷◌, ℕ, ◌+◌, ◌*◌, ◌/◌, ◌%◌, eqb, Result, Ok, Err}
+use Rattle.ground.specs.Numbers.{done, number_of}
+use Rattle.ground.specs.declared.Refusal.{Refusal}
 use Rattle.routes.specs.Lookup.{LookupOutcome}
 use Rattle.runs.specs.Build.{BuildOutcome}
 use Rattle.lookup.specs.Lookup.{RunLookupOutcome}
@@ -32,6 +33,11 @@ probed_for_c o last = probed_gave_c (run_lookup_for_c o) (cond (eqb o.number don
 -- an address in four bytes, the highest in front
 abbrev pub address_bytes : ℕ → List ℕ
 address_bytes a = a / 16777216 ∷ a / 65536 % 256 ∷ a / 256 % 256 ∷ a % 256 ∷ []
+
+-- Rule 7.10: what answers a count gives C count + 4,294,967,296 × number.
+abbrev pub count_for_c : Result ℕ Refusal → ℕ
+count_for_c (Ok n) = n
+count_for_c (Err e) = 4294967296 * number_of e
 
 -- Rule 7.10: a build gives C count + 4,294,967,296 × number.
 unfoldable pub built_for_c : BuildOutcome → ℕ

@@ -1,9 +1,10 @@
 // What C gets of an edit.
 ghost use Rattle.c_structs.specs.Structs.{host_edit_gave};
 ghost use Rattle.std.specs.Prelude.{◌≡◌, []};
-ghost use Rattle.edit.specs.Edit.{edit_outcome, edit_gave};
+ghost use Rattle.edit.specs.Edit.{edit_gave};
 
 use edit::Edit;
+use ground::Refusal;
 
 // Rule 7.10: what an edit returns to C, its number, the changed number, and the new counts of rows and of runs.
 #[repr(C)]
@@ -15,37 +16,24 @@ pub struct WhelkEdit {
     pub runs: usize,
 }
 
-// Rule 5.4: a refused edit's number, and 0 for the rest.
-fn not_edited(number: u32) -> WhelkEdit
-    ensures { host_edit_gave result [] [] [] [] ≡ edit_outcome number 0 0 0 [] [] [] [] }
-{
-    WhelkEdit {
-        number: number as usize,
-        changed: 0,
-        count: 0,
-        runs: 0,
-    }
-}
+// Rule 7.10: an edit's answer as C gets it. Rule 5.4: of a refused edit its number, and 0 for the rest.
+impl From<Result<Edit, Refusal>> for WhelkEdit {
+    ghost from_gives = { λ r w. host_edit_gave w [] [] [] [] ≡ edit_gave r [] [] [] [] };
 
-// Rule 7.10: an edit's answer as C gets it.
-pub fn edit_for_c(r: Edit) -> WhelkEdit
-    ensures { host_edit_gave result [] [] [] [] ≡ edit_gave r [] [] [] [] }
-{
-    match r {
-        Edit::Done {
-            changed,
-            count,
-            runs,
-        } => WhelkEdit {
-            number: ground::DONE as usize,
-            changed,
-            count,
-            runs,
-        },
-        Edit::BadEdit => not_edited(ground::BAD_EDIT),
-        Edit::IllFormed => not_edited(ground::ILL_FORMED),
-        Edit::NotItsRuns => not_edited(ground::NOT_ITS_RUNS),
-        Edit::NotListed => not_edited(ground::NOT_LISTED),
-        Edit::NoRoom => not_edited(ground::NO_ROOM),
+    fn from(r: Result<Edit, Refusal>) -> WhelkEdit {
+        match r {
+            Ok(edit) => WhelkEdit {
+                number: ground::DONE as usize,
+                changed: edit.changed,
+                count: edit.count,
+                runs: edit.runs,
+            },
+            Err(e) => WhelkEdit {
+                number: u32::from(e) as usize,
+                changed: 0,
+                count: 0,
+                runs: 0,
+            },
+        }
     }
 }

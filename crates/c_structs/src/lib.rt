@@ -7,12 +7,13 @@ pub mod pulls;
 pub mod reasons;
 
 ghost use Rattle.std.specs.Prelude.{◌≡◌, []};
-ghost use Rattle.feed.specs.Import.{end_number};
-ghost use Rattle.segment.specs.Pack.{pack_lent, pack_refused, pack_gave};
+ghost use Rattle.feed.specs.Import.{end_number, counts_gave};
+ghost use Rattle.segment.specs.Pack.{pack_gave};
 ghost use Rattle.c_structs.specs.Structs.{counts_for_c, host_pack_gave};
 
-use feed::{ImportEnd, Imported};
-use segment::Packing;
+use feed::{Counts, RowNumber};
+use ground::Refusal;
+use segment::Packed;
 
 // Rule 7.10: what an import returns to C, its number and the eight counts.
 #[repr(C)]
@@ -29,32 +30,33 @@ pub struct WhelkCounts {
     pub zeros: usize,
 }
 
-// The number of an import's end.
-pub fn number_of(end: ImportEnd) -> usize
-    ensures { result ≡ end_number end }
-{
-    match end {
-        ImportEnd::Done => ground::DONE as usize,
-        ImportEnd::ReportShort => ground::REPORT_SHORT as usize,
+// Rule 7.10: an import's number, and its counts, which are 0 on 12.
+impl From<Result<Counts, Refusal>> for WhelkCounts {
+    ghost from_gives = { λ r w. w ≡ counts_for_c (end_number r) (counts_gave r) };
+
+    fn from(r: Result<Counts, Refusal>) -> WhelkCounts {
+        let c = r.unwrap_or(Counts::default());
+        WhelkCounts {
+            number: number_of(r.map(|_| ())),
+            rows: c.rows,
+            taken: c.of[RowNumber::Taken as usize],
+            shape: c.of[RowNumber::Shape as usize],
+            range: c.of[RowNumber::Range as usize],
+            hostbits: c.of[RowNumber::HostBits as usize],
+            replaced: c.of[RowNumber::Replaced as usize],
+            noroom: c.of[RowNumber::NoRoomLeft as usize],
+            zeros: c.of[RowNumber::Zeros as usize],
+        }
     }
 }
 
-// Rule 7.10: an import's answer as C gets it.
-pub fn counts_for_c(i: Imported) -> WhelkCounts
-    ensures { result ≡ counts_for_c (end_number i.end) i.counts }
+// The number of an import's end.
+pub fn number_of(end: Result<(), Refusal>) -> usize
+    ensures { result ≡ end_number end }
 {
-    let end = i.end;
-    let c = i.counts;
-    WhelkCounts {
-        number: number_of(end),
-        rows: c.rows,
-        taken: c.of[feed::TAKEN as usize],
-        shape: c.of[feed::SHAPE as usize],
-        range: c.of[feed::RANGE as usize],
-        hostbits: c.of[feed::HOST_BITS as usize],
-        replaced: c.of[feed::REPLACED as usize],
-        noroom: c.of[feed::NO_ROOM_LEFT as usize],
-        zeros: c.of[feed::ZEROS as usize],
+    match end {
+        Ok(()) => ground::DONE as usize,
+        Err(e) => u32::from(e) as usize,
     }
 }
 
@@ -68,31 +70,24 @@ pub struct WhelkPacked {
     pub hops: usize,
 }
 
-// Rule 5.4: a refused packing's number, and 0 for the rest.
-fn not_packed(number: u32) -> WhelkPacked
-    ensures { host_pack_gave result [] [] [] ≡ pack_refused (pack_lent [] [] []) number }
-{
-    WhelkPacked {
-        number: number as usize,
-        width: 0,
-        words: 0,
-        hops: 0,
-    }
-}
+// Rule 7.10: a packing's answer as C gets it. Rule 5.4: of a refused packing its number, and 0 for the rest.
+impl From<Result<Packed, Refusal>> for WhelkPacked {
+    ghost from_gives = { λ r w. host_pack_gave w [] [] [] ≡ pack_gave r [] [] [] };
 
-// Rule 7.10: a packing's answer as C gets it.
-pub fn packing_for_c(r: Packing) -> WhelkPacked
-    ensures { host_pack_gave result [] [] [] ≡ pack_gave r [] [] [] }
-{
-    match r {
-        Packing::Done { width, words, hops } => WhelkPacked {
-            number: ground::DONE as usize,
-            width: width as usize,
-            words,
-            hops,
-        },
-        Packing::IllFormed => not_packed(ground::ILL_FORMED),
-        Packing::NotItsRuns => not_packed(ground::NOT_ITS_RUNS),
-        Packing::NoRoom => not_packed(ground::NO_ROOM),
+    fn from(r: Result<Packed, Refusal>) -> WhelkPacked {
+        match r {
+            Ok(packed) => WhelkPacked {
+                number: ground::DONE as usize,
+                width: packed.width as usize,
+                words: packed.words,
+                hops: packed.hops,
+            },
+            Err(e) => WhelkPacked {
+                number: u32::from(e) as usize,
+                width: 0,
+                words: 0,
+                hops: 0,
+            },
+        }
     }
 }

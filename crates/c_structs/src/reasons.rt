@@ -1,9 +1,9 @@
 // What C gets of a listing of reasons.
 ghost use Rattle.c_structs.specs.Structs.{why_gave_c, why_for_c};
 ghost use Rattle.std.specs.Prelude.{◌≡◌, []};
-ghost use Rattle.std.proofs.Math.Option.{none};
-ghost use Rattle.why.specs.Why.{told, why_gave};
+ghost use Rattle.why.specs.Why.{why_gave};
 
+use ground::Refusal;
 use why::Reason;
 
 // Rule 18.6: what a listing returns to C: its number, how many places it listed, and the place of the row that decides.
@@ -17,7 +17,7 @@ pub struct WhelkReason {
 
 // No row decides: a number, and 0 for the rest.
 fn no_row(number: u32) -> WhelkReason
-    ensures { why_gave_c result [] ≡ why_for_c (told number 0 none []) }
+    ensures { (result.number ≡ number) × (result.listed ≡ 0) × (result.place ≡ 0) }
 {
     WhelkReason {
         number: number as usize,
@@ -27,17 +27,18 @@ fn no_row(number: u32) -> WhelkReason
 }
 
 // Rule 18.6: a reason as C gets it.
-pub fn reason_for_c(r: Reason) -> WhelkReason
-    ensures { why_gave_c result [] ≡ why_for_c (why_gave r []) }
-{
-    match r {
-        Reason::Row { place, listed } => WhelkReason {
-            number: ground::DONE as usize,
-            listed,
-            place,
-        },
-        Reason::Nothing => no_row(ground::DONE),
-        Reason::IllFormed => no_row(ground::ILL_FORMED),
-        Reason::NoRoom => no_row(ground::NO_ROOM),
+impl From<Result<Option<Reason>, Refusal>> for WhelkReason {
+    ghost from_gives = { λ r w. why_gave_c w [] ≡ why_for_c (why_gave r []) };
+
+    fn from(r: Result<Option<Reason>, Refusal>) -> WhelkReason {
+        match r {
+            Ok(Some(reason)) => WhelkReason {
+                number: ground::DONE as usize,
+                listed: reason.listed,
+                place: reason.place,
+            },
+            Ok(None) => no_row(ground::DONE),
+            Err(e) => no_row(u32::from(e)),
+        }
     }
 }

@@ -6,27 +6,24 @@ use mathlib.Core.Bool.{cond}
 use mathlib.Core.List.{List}
 use Prim.Native.Nat.{ℕ}
 use lib.Dec.{eqb}
-use Rattle.ground.specs.Numbers.{done, ill_formed}
+use Rattle.ground.specs.Numbers.{done}
 use Rattle.routes.specs.Row.{ListLent}
-use Rattle.clue.specs.declared.Entered.{Entered}
-use Rattle.clue.specs.declared.Entered.TheVariants as E
+use Rattle.std.specs.Prelude.{Result, Ok, Err}
+use Rattle.clue.specs.declared.Refusal.{Refusal}
+use Rattle.clue.proofs.Numbers.{refusal_by, number_tells, number_not_done}
 use Rattle.entries.specs.Entries.{EntriesLent}
-use Rattle.clue.specs.Build.{bad_length, EntriesOutcome, entries_gave, build_entries}
+use Rattle.clue.specs.Build.{EntriesOutcome, entries_gave, build_entries}
 
-abbrev entered_by : EntriesOutcome → Entered
-entered_by o =
-    cond (eqb o.number done) (E.Entries o.count)
-    (cond (eqb o.number bad_length) E.BadLength (cond (eqb o.number ill_formed) E.IllFormed E.NoRoom))
+abbrev entered_by : EntriesOutcome → Result ℕ Refusal
+entered_by o = cond (eqb o.number done) (Ok o.count) (Err (refusal_by o.number))
 
-tells : (r : Entered) (keys hops marks : List ℕ)
+tells : (r : Result ℕ Refusal) (keys hops marks : List ℕ)
     → let o = entries_gave r keys hops marks in
     (entered_by o ≡ r) × (o.left.keys ≡ keys) × (o.left.hops ≡ hops) × (o.left.marks ≡ marks)
-tells (E.Entries n) keys hops marks = (refl, refl, refl, refl)
-tells E.BadLength keys hops marks = (refl, refl, refl, refl)
-tells E.IllFormed keys hops marks = (refl, refl, refl, refl)
-tells E.NoRoom keys hops marks = (refl, refl, refl, refl)
+tells (Ok n) keys hops marks = (refl, refl, refl, refl)
+tells (Err e) keys hops marks = (rw number_not_done (ap Err (number_tells e)), refl, refl, refl)
 
-module _ (l : ListLent) (lengths addresses : List ℕ) (e : EntriesLent) (r r' : Entered) (k k' h h' m m' : List ℕ) where
+module _ (l : ListLent) (lengths addresses : List ℕ) (e : EntriesLent) (r r' : Result ℕ Refusal) (k k' h h' m m' : List ℕ) where
   pub entries_settled : entries_gave r k h m ≡ build_entries l lengths addresses e
       → entries_gave r' k' h' m' ≡ build_entries l lengths addresses e → (r ≡ r') × (k ≡ k') × (h ≡ h') × (m ≡ m')
   entries_settled b b' =

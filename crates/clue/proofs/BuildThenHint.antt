@@ -10,11 +10,11 @@ use lib.ListN.{get_or, take}
 use Rattle.ground.specs.Numbers.{done}
 use Rattle.cidr.specs.Prefix.{addresses}
 use Rattle.routes.specs.Row.{ListLent, rows_lent}
-use Rattle.routes.specs.declared.Looked.{Looked}
+use Rattle.std.specs.Prelude.{Result, Option, Ok}
+use Rattle.ground.specs.declared.Refusal as g
 use Rattle.routes.specs.Lookup.{LookupOutcome, lookup_gave, plain_lookup}
-use Rattle.clue.specs.declared.Entered.TheVariants as E
+use Rattle.clue.specs.declared.Refusal.{Refusal}
 use Rattle.clue.specs.declared.Hinted.{Hinted}
-use Rattle.clue.specs.declared.Told.{Told}
 use Rattle.entries.specs.Entries.{EntriesLent, entries_lent, its_entries}
 use Rattle.clue.specs.Build.{entries_gave, build_entries}
 use Rattle.clue.specs.Lookup.{hint_gave, hint_lookup}
@@ -24,7 +24,7 @@ use Rattle.clue.proofs.HintThenLookup.{plain_accepted, hint_then_lookup, hint_re
 use Rattle.clue.proofs.QuickThenLookup.{quick_final_lem}
 
 module _ (l : ListLent) (lengths addrs : List ℕ) (e : EntriesLent) {n : ℕ} {ekeys ehops marks : List ℕ}
-    (b : entries_gave (E.Entries n) ekeys ehops marks ≡ build_entries l lengths addrs e) (small : (i : ℕ) → get_or addrs i 0 < addresses) where
+    (b : entries_gave (Ok n) ekeys ehops marks ≡ build_entries l lengths addrs e) (small : (i : ℕ) → get_or addrs i 0 < addresses) where
   -- the entries that were built
   abbrev built : EntriesLent
   built = entries_lent (take n ekeys) (take n ehops) (take n marks)
@@ -32,15 +32,15 @@ module _ (l : ListLent) (lengths addrs : List ℕ) (e : EntriesLent) {n : ℕ} {
   its : its_entries (rows_lent l) built ≡ true
   its = built_are_its l lengths addrs e b small
 
-  module _ (len a : ℕ) (q : Looked) (found : lookup_gave q ≡ plain_lookup l a) where
-    pub build_then_hint : len ≤ 32 → (r : Hinted) → hint_gave r ≡ hint_lookup l built len a
+  module _ (len a : ℕ) (q : Result ℕ g.Refusal) (found : lookup_gave q ≡ plain_lookup l a) where
+    pub build_then_hint : len ≤ 32 → (r : Result Hinted Refusal) → hint_gave r ≡ hint_lookup l built len a
         → ((hint_gave r).number ≡ done) × ((lookup_gave q).number ≡ done) × ((hint_gave r).hop ≡ (lookup_gave q).hop)
     build_then_hint short r gave =
         let none = (hint_refused l built len a r gave).accepted short (built_well l lengths addrs e b) its in
         let same = hint_then_lookup l built len a r gave q found none in
         (none, same.0, same.1)
 
-    pub build_then_quick : (t : Told) → quick_gave t ≡ quick_lookup built len a → (quick_gave t).final ≡ true
+    pub build_then_quick : (t : Option ℕ) → quick_gave t ≡ quick_lookup built len a → (quick_gave t).final ≡ true
         → ((lookup_gave q).number ≡ done) × ((quick_gave t).hop ≡ (lookup_gave q).hop)
     build_then_quick t gave final =
         let is = found ∙ plain_accepted l a (built_well l lengths addrs e b) in (

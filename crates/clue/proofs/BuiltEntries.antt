@@ -17,7 +17,7 @@ use Rattle.ground.specs.Column.{ascends, is_in}
 use Rattle.cidr.specs.Prefix.{addresses}
 use Rattle.routes.specs.Row.{Row, ListLent, rows_lent}
 use Rattle.routes.specs.WellFormed.{well_formed}
-use Rattle.clue.specs.declared.Entered.TheVariants as E
+use Rattle.std.specs.Prelude.{Ok}
 use Rattle.entries.specs.Clue.{clue_of}
 use Rattle.entries.specs.Entries.{clues, in_key_order, entry_hops, entry_marks, EntriesLent, entries_lent, all_keys, its_entries, too_long, entry_room, entries_in}
 use Rattle.clue.specs.Build.{EntriesOutcome, made, entries_gave, build_entries}
@@ -50,7 +50,7 @@ unfolding written
 take_written n new old e = take_at new _ n (sym e)
 
 module _ (l : ListLent) (lengths addrs : List ℕ) (e : EntriesLent) {n : ℕ} {ekeys ehops marks : List ℕ}
-    (b : entries_gave (E.Entries n) ekeys ehops marks ≡ build_entries l lengths addrs e) where
+    (b : entries_gave (Ok n) ekeys ehops marks ≡ build_entries l lengths addrs e) where
   abbrev number_is : EntriesOutcome → ℕ
   number_is o = o.number
 
@@ -63,13 +63,13 @@ module _ (l : ListLent) (lengths addrs : List ℕ) (e : EntriesLent) {n : ℕ} {
 
   roomy : length (in_key_order (clues lengths addrs)) ≤ entry_room e
   roomy = ⊎_elim
-      (λ t. absurd (omega (arith, ap number_is (b ∙ sym (build_full l lengths addrs e short built_well (ltb-true _ _ t))))))
+      (λ t. absurd (omega (arith, ap number_is (b ∙ sym (build_full l lengths addrs e short built_well refl (ltb-true _ _ t))))))
       (λ t. ltb-false _ _ t)
       (decided (ltb (entry_room e) (length (in_key_order (clues lengths addrs)))))
 
   left : made done n (entries_lent ekeys ehops marks)
       ≡ made done (length (in_key_order (clues lengths addrs))) (entries_in (rows_lent l) (in_key_order (clues lengths addrs)) e)
-  left = b ∙ sym (build_done l lengths addrs e short built_well (rows_lent l) roomy refl refl refl)
+  left = b ∙ sym (build_done l lengths addrs e short built_well refl (rows_lent l) roomy refl refl refl)
 
   many : n ≡ length (in_key_order (clues lengths addrs))
   many = ap (λ (o : EntriesOutcome). o.count) left

@@ -10,12 +10,12 @@ use Rattle.ground.specs.Numbers.{first_fault, outcome, done, ill_formed}
 use Rattle.routes.specs.Row.{ListLent, rows_lent}
 use Rattle.routes.specs.WellFormed.{well_formed}
 use Rattle.routes.specs.Plain.{plain}
-use Rattle.routes.specs.declared.Place.TheVariants.{At, Missing}
+use Rattle.std.specs.Prelude.{Ok, Err}
 use Rattle.routes.specs.Place.{place_in}
 use Rattle.entries.specs.Clue.{clue_of}
 use Rattle.entries.specs.Entries.{EntriesLent, its_entries}
-use Rattle.clue.specs.Build.{bad_length}
-use Rattle.clue.specs.Lookup.{hinted, not_its_entries, is_final, stored_hop, hint_checks, hint_lookup}
+use Rattle.clue.specs.Refusal.{bad_length, not_its_entries}
+use Rattle.clue.specs.Lookup.{hinted, is_final, stored_hop, hint_checks, hint_lookup}
 use Rattle.entries.proofs.Places.{at_in, missing_out}
 
 module _ (l : ListLent) (e : EntriesLent) (len a : ℕ) where
@@ -47,7 +47,7 @@ module _ (l : ListLent) (e : EntriesLent) (len a : ℕ) where
 
 -- whether the clue's entry is final, by the clue's place among the entries' keys
 module _ (e : EntriesLent) (k i : ℕ) where
-  module _ (p : place_in e.keys k ≡ At i) where
+  module _ (p : place_in e.keys k ≡ Ok i) where
     pub final_at : get_or e.marks i 0 ≡ 0 → is_final e k ≡ true
     unfolding is_final
     final_at m =
@@ -64,6 +64,6 @@ module _ (e : EntriesLent) (k i : ℕ) where
     unfolding stored_hop
     stored_at = rw (← (at_in e.keys k i p).1)
 
-  pub none_at : place_in e.keys k ≡ Missing i → is_final e k ≡ false
+  pub none_at : place_in e.keys k ≡ Err i → is_final e k ≡ false
   unfolding is_final
   none_at p = rw (missing_out e.keys k i p).0

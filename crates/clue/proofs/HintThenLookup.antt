@@ -13,13 +13,15 @@ use Rattle.ground.specs.Numbers.{first_fault, outcome, done, ill_formed}
 use Rattle.routes.specs.Row.{ListLent, rows_lent}
 use Rattle.routes.specs.WellFormed.{well_formed}
 use Rattle.routes.specs.Plain.{plain}
-use Rattle.routes.specs.declared.Looked.{Looked}
+use Rattle.std.specs.Prelude.{Result}
+use Rattle.ground.specs.declared.Refusal as g
 use Rattle.routes.specs.Lookup.{LookupOutcome, looked_up, lookup_gave, lookup_checks, plain_lookup}
 use Rattle.clue.specs.declared.Hinted.{Hinted}
 use Rattle.entries.specs.Clue.{clue_of}
 use Rattle.entries.specs.Entries.{EntriesLent, its_entries}
-use Rattle.clue.specs.Build.{bad_length}
-use Rattle.clue.specs.Lookup.{HintOutcome, hint_gave, not_its_entries, is_final, hint_lookup}
+use Rattle.clue.specs.declared.Refusal.{Refusal}
+use Rattle.clue.specs.Refusal.{bad_length, not_its_entries}
+use Rattle.clue.specs.Lookup.{HintOutcome, hint_gave, is_final, hint_lookup}
 use Rattle.entries.proofs.Decided.{decided}
 use Rattle.clue.proofs.HintOutcomes.{hint_long, hint_ill, hint_other, hint_final, hint_searched}
 use Rattle.clue.proofs.Stored.{final_stored}
@@ -66,7 +68,7 @@ pub record Refused (l : ListLent) (e : EntriesLent) (len number : ℕ) : Type 0 
   pub only_other : number ≡ not_its_entries → its_entries (rows_lent l) e ≡ false
   pub accepted : len ≤ 32 → well_formed l.count l.keys l.hops ≡ true → its_entries (rows_lent l) e ≡ true → number ≡ done
 
-module _ (l : ListLent) (e : EntriesLent) (len a : ℕ) (r : Hinted) (gave : hint_gave r ≡ hint_lookup l e len a) where
+module _ (l : ListLent) (e : EntriesLent) (len a : ℕ) (r : Result Hinted Refusal) (gave : hint_gave r ≡ hint_lookup l e len a) where
   same_number : (hint_gave r).number ≡ (hint_lookup l e len a).number
   same_number = ap (λ (o : HintOutcome). o.number) gave
 
@@ -74,7 +76,7 @@ module _ (l : ListLent) (e : EntriesLent) (len a : ℕ) (r : Hinted) (gave : hin
   same_hop = ap (λ (o : HintOutcome). o.hop) gave
 
   -- Rule 19.6: where it gives 0, plain lookup gives 0 and the same hop. That it gives 0 says that the length is at most 32.
-  pub hint_then_lookup : (q : Looked) → lookup_gave q ≡ plain_lookup l a → (hint_gave r).number ≡ done
+  pub hint_then_lookup : (q : Result ℕ g.Refusal) → lookup_gave q ≡ plain_lookup l a → (hint_gave r).number ≡ done
       → ((lookup_gave q).number ≡ done) × ((hint_gave r).hop ≡ (lookup_gave q).hop)
   hint_then_lookup q found z = go (number_is l e len a)
     where

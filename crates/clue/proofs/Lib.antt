@@ -1,3 +1,4 @@
+mod Numbers
 mod Halfway
 mod Turning
 mod HintOutcomes

@@ -15,7 +15,8 @@ use Rattle.halving.specs.Halving.{halving}
 use Rattle.routes.specs.Row.{Row, ListLent, rows_lent}
 use Rattle.routes.specs.WellFormed.{well_formed}
 use Rattle.routes.specs.Plain.{plain}
-use Rattle.clue.specs.declared.Told.{Told}
+use Rattle.std.specs.Prelude.{Result, Option}
+use Rattle.clue.specs.declared.Refusal.{Refusal}
 use Rattle.clue.specs.declared.Hinted.{Hinted}
 use Rattle.entries.specs.Clue.{clue_of}
 use Rattle.entries.specs.Entries.{EntriesLent, its_entries, entry_room}
@@ -79,7 +80,7 @@ module _ (rows : List Row) (e : EntriesLent) (its : its_entries rows e ≡ true)
       omega (arith, its_hops_count rows e.keys e.hops e.marks its, its_marks_count rows e.keys e.hops e.marks its)
 
   -- Rule 19.7: a hop that is final is the plain answer.
-  pub quick_final_lem : (len a : ℕ) (t : Told) → quick_gave t ≡ quick_lookup e len a → (quick_gave t).final ≡ true → (quick_gave t).hop ≡ plain rows a
+  pub quick_final_lem : (len a : ℕ) (t : Option ℕ) → quick_gave t ≡ quick_lookup e len a → (quick_gave t).final ≡ true → (quick_gave t).hop ≡ plain rows a
   quick_final_lem len a t gave f =
       let w = says_final e len a (sym (ap (λ (o : QuickOutcome). o.final) gave) ∙ f) in
       let p = parts e len (clue_of len a) w.0 in
@@ -118,7 +119,7 @@ module _ (rows : List Row) (e : EntriesLent) (its : its_entries rows e ≡ true)
         (λ f. ap (λ (o : QuickOutcome). o.final) (quick_tells f))
 
 -- So over a well-formed list and its entries the quick form and lookup with a hint say the same of a stored hop.
-module _ (l : ListLent) (e : EntriesLent) (len a : ℕ) (t : Told) (r : Hinted) (told : quick_gave t ≡ quick_lookup e len a)
+module _ (l : ListLent) (e : EntriesLent) (len a : ℕ) (t : Option ℕ) (r : Result Hinted Refusal) (told : quick_gave t ≡ quick_lookup e len a)
     (gave : hint_gave r ≡ hint_lookup l e len a) (short : len ≤ 32) (w : well_formed l.count l.keys l.hops ≡ true)
     (its : its_entries (rows_lent l) e ≡ true) where
   pub quick_agrees : ((quick_gave t).final ≡ (hint_gave r).final) × ((quick_gave t).final ≡ true → (quick_gave t).hop ≡ (hint_gave r).hop)

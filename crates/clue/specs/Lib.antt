@@ -1,3 +1,4 @@
+pub mod Refusal
 pub mod Build
 pub mod Lookup
 pub mod Quick

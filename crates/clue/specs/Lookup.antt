@@ -2,7 +2,7 @@
 -- aren't the list's for their clues, and else 0 and the hop: the stored one if the clue has an entry that nothing extends, and else what a
 -- search finds.
 -- Assumes nothing.
-use Rattle.std.specs.Prelude.{Bool, true, false, not, cond, ◌&&◌, List, [], ◌∷◌, ℕ, get_or, ltb, eqb}
+use Rattle.std.specs.Prelude.{Bool, true, false, not, cond, ◌&&◌, List, [], ◌∷◌, ℕ, get_or, ltb, eqb, Result, Ok, Err}
 use Rattle.ground.specs.Numbers.{Check, check, outcome, done, ill_formed}
 use Rattle.ground.specs.Column.{is_in, lower}
 use Rattle.routes.specs.Row.{ListLent, rows_lent}
@@ -10,13 +10,10 @@ use Rattle.routes.specs.WellFormed.{well_formed}
 use Rattle.routes.specs.Plain.{plain}
 use Rattle.entries.specs.Clue.{clue_of}
 use Rattle.entries.specs.Entries.{EntriesLent, its_entries}
-use Rattle.clue.specs.Build.{bad_length}
+use Rattle.clue.specs.declared.Refusal.{Refusal}
+use Rattle.clue.specs.Refusal.{number_of, bad_length, not_its_entries}
 use Rattle.clue.specs.declared.Hinted.{Hinted}
 use Rattle.clue.specs.declared.Hinted.TheVariants as H
-
--- 14: the entries aren't the list's for their clues
-abbrev pub not_its_entries : ℕ
-not_its_entries = 14
 
 -- what lookup with a hint returns: its number, the hop, and whether the stored hop was final
 pub record HintOutcome : Type 0 where
@@ -28,12 +25,10 @@ abbrev pub hinted : ℕ → ℕ → Bool → HintOutcome
 hinted n h final = record { number = n; hop = h; final = final }
 
 -- the same, read from the code's answer
-abbrev pub hint_gave : Hinted → HintOutcome
-hint_gave (H.Final h) = hinted done h true
-hint_gave (H.Searched h) = hinted done h false
-hint_gave H.BadLength = hinted bad_length 0 false
-hint_gave H.IllFormed = hinted ill_formed 0 false
-hint_gave H.NotItsEntries = hinted not_its_entries 0 false
+abbrev pub hint_gave : Result Hinted Refusal → HintOutcome
+hint_gave (Ok (H.Final h)) = hinted done h true
+hint_gave (Ok (H.Searched h)) = hinted done h false
+hint_gave (Err e) = hinted (number_of e) 0 false
 
 -- Rule 19.6: the clue has an entry, and nothing extends it.
 unfoldable pub is_final : EntriesLent → ℕ → Bool

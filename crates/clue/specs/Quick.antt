@@ -1,12 +1,10 @@
 -- Rule 19.7: the quick form looks for the clue among the entries by halving (rule 7.3), and checks nothing of them but where the slices end.
 -- It says that a hop is final, or that a search has to follow, as for a length above 32.
 -- Assumes nothing.
-use Rattle.std.specs.Prelude.{Bool, true, false, cond, ◌&&◌, ℕ, get_or, ltb, leb, eqb}
+use Rattle.std.specs.Prelude.{Bool, true, false, cond, ◌&&◌, ℕ, get_or, ltb, leb, eqb, Option, None, Some}
 use Rattle.halving.specs.Halving.{halving}
 use Rattle.entries.specs.Clue.{clue_of}
 use Rattle.entries.specs.Entries.{EntriesLent, entry_room}
-use Rattle.clue.specs.declared.Told.{Told}
-use Rattle.clue.specs.declared.Told.TheVariants as T
 
 -- what the quick form says: whether a hop is final, and the hop, or 0
 pub record QuickOutcome : Type 0 where
@@ -17,9 +15,9 @@ abbrev pub said : Bool → ℕ → QuickOutcome
 said final h = record { final = final; hop = h }
 
 -- the same, read from the code's answer
-abbrev pub quick_gave : Told → QuickOutcome
-quick_gave (T.Final h) = said true h
-quick_gave T.Search = said false 0
+abbrev pub quick_gave : Option ℕ → QuickOutcome
+quick_gave (Some h) = said true h
+quick_gave None = said false 0
 
 -- Rule 19.7: the place where halving over the first n keys ends.
 unfoldable pub quick_place : EntriesLent → ℕ → ℕ

@@ -7,53 +7,42 @@ ghost use Rattle.std.specs.Prelude.{◌≡◌, true, ◌≤◌, ◌<◌, length,
 ghost use Rattle.halving.specs.Halving.{halving};
 ghost use Rattle.routes.specs.Row.{list_lent, rows_of};
 ghost use Rattle.routes.specs.WellFormed.{well_formed};
-ghost use Rattle.entries.specs.Entries.{entries_lent, its_entries, too_long};
+ghost use Rattle.entries.specs.Entries.{entries_lent, its_entries};
+ghost use Rattle.clue.specs.Refusal.{GivesNumber};
 ghost use Rattle.clue.specs.Build.{entries_gave, build_entries};
 ghost use Rattle.clue.specs.Lookup.{hint_gave, hint_lookup};
 ghost use Rattle.clue.specs.Quick.{quick_gave, quick_lookup};
 
-use entries::{entry, order};
-use routes::Place;
+use entries::entry;
+use entries::order::{self, Clues};
 
-// What a build of entries gives: how many there are, 15, 11, or 13.
-#[derive(Clone, Copy)]
-pub enum Entered {
-    Entries(usize),
-    BadLength,
-    IllFormed,
-    NoRoom,
+// Why a call of the hints is refused, each with the number that rules 19.3 to 19.6 give it.
+#[derive(Clone, Copy, Debug, PartialEq, Eq)]
+pub enum Refusal {
+    // A list isn't well-formed.
+    IllFormed = 11,
+    // There are more entries than room.
+    NoRoom = 13,
+    // Entries aren't the list's for their clues.
+    NotItsEntries = 14,
+    // A length is above 32.
+    BadLength = 15,
 }
 
-// What a lookup with a hint gives: the hop, stored and final or searched for; 15, 11, or 14.
-#[derive(Clone, Copy)]
+// The number of a refusal; `specs/Refusal` has it as a definition.
+impl From<Refusal> for u64 {
+    ghost from_gives = { GivesNumber };
+
+    fn from(refusal: Refusal) -> u64 {
+        refusal as u64
+    }
+}
+
+// What a lookup with a hint gives: the hop, stored and final or searched for.
+#[derive(Clone, Copy, Debug, PartialEq, Eq)]
 pub enum Hinted {
     Final(u16),
     Searched(u16),
-    BadLength,
-    IllFormed,
-    NotItsEntries,
-}
-
-// What the quick form says: this hop is final, or a search has to follow.
-#[derive(Clone, Copy)]
-pub enum Told {
-    Final(u16),
-    Search,
-}
-
-// Rule 19.4: whether a length that counts is above 32.
-fn too_long(lengths: &[u8], addresses: &[u32]) -> bool
-    ensures { result ≡ too_long lengths.now addresses.now }
-{
-    let clues = order::lesser(lengths.len(), addresses.len());
-    let mut i = 0;
-    while i < clues {
-        if 32 < lengths[i] {
-            return true;
-        }
-        i += 1;
-    }
-    false
 }
 
 // Rules 19.3 and 19.4: the entries of a list for lent clues, into three lent slices; 15 for a length above 32, 11 for a list that isn't
@@ -69,33 +58,23 @@ pub fn build(
     ekeys: &mut [u64],
     ehops: &mut [u16],
     marks: &mut [u8],
-) -> Entered
+) -> Result<usize, Refusal>
     ensures { entries_gave result ekeys.new ehops.new marks.new
         ≡ build_entries (list_lent count keys.now hops.now) lengths.now addresses.now
         (entries_lent ekeys.old ehops.old marks.old) }
 {
-    if too_long(lengths, addresses) {
-        return Entered::BadLength;
-    }
+    let Some(clues) = Clues::new(lengths, addresses) else {
+        return Err(Refusal::BadLength);
+    };
     if !routes::list_ok(count, keys, hops, false) {
-        return Entered::IllFormed;
+        return Err(Refusal::IllFormed);
     }
-    let ordered = order::in_order(lengths, addresses);
     let room = order::entry_room(ekeys, ehops, marks);
-    if !order::fits(lengths, addresses, ordered, room) {
-        return Entered::NoRoom;
+    if !clues.fit(room) {
+        return Err(Refusal::NoRoom);
     }
-    let n = order::write(
-        &keys[..count],
-        &hops[..count],
-        lengths,
-        addresses,
-        ordered,
-        ekeys,
-        ehops,
-        marks,
-    );
-    Entered::Entries(n)
+    let n = clues.write(&keys[..count], &hops[..count], ekeys, ehops, marks);
+    Ok(n)
 }
 
 // Rule 19.5: whether entries are the list's for their clues.
@@ -111,18 +90,14 @@ fn entries_ok(keys: &[u64], hops: &[u16], ekeys: &[u64], ehops: &[u16], marks: &
     if marks.len() != n {
         return false;
     }
-    let mut i = 0;
-    while i < n {
+    for i in 0..n {
         if !entry::entry_ok(keys, hops, ekeys[i], ehops[i], marks[i]) {
             return false;
         }
         let next = i + 1;
-        if next < n {
-            if ekeys[next] <= ekeys[i] {
-                return false;
-            }
+        if next < n && ekeys[next] <= ekeys[i] {
+            return false;
         }
-        i = next;
     }
     true
 }
@@ -138,28 +113,28 @@ pub fn lookup(
     marks: &[u8],
     len: u32,
     a: u32,
-) -> Hinted
+) -> Result<Hinted, Refusal>
     ensures { hint_gave result
         ≡ hint_lookup (list_lent count keys.now hops.now)
         (entries_lent ekeys.now ehops.now marks.now) len a }
 {
     if 32 < len {
-        return Hinted::BadLength;
+        return Err(Refusal::BadLength);
     }
     if !routes::list_ok(count, keys, hops, false) {
-        return Hinted::IllFormed;
+        return Err(Refusal::IllFormed);
     }
     let rkeys = &keys[..count];
     let rhops = &hops[..count];
     if !entries_ok(rkeys, rhops, ekeys, ehops, marks) {
-        return Hinted::NotItsEntries;
+        return Err(Refusal::NotItsEntries);
     }
-    if let Place::At(at) = routes::place_of(ekeys, entry::clue_key(len as u64, a as u64)) {
+    if let Ok(at) = routes::place_of(ekeys, entry::clue_key(len as u64, a as u64)) {
         if marks[at] == 0 {
-            return Hinted::Final(ehops[at]);
+            return Ok(Hinted::Final(ehops[at]));
         }
     }
-    Hinted::Searched(entry::hop_around(rkeys, rhops, a as u64, 32))
+    Ok(Hinted::Searched(entry::hop_around(rkeys, rhops, a as u64, 32)))
 }
 
 // Rule 7.3: where halving over the first n keys ends. How many probes it made isn't asked.
@@ -168,11 +143,9 @@ fn halve(n: usize, ekeys: &[u64], k: u64) -> usize
     ensures { (result ≡ (halving (λ i. get_or ekeys.now i 0) n k).low) × (result < n) }
 {
     let mut s = halving::whole(n);
-    let mut left = halving::turns(n);
-    while 0 < left {
+    for _left in (0..halving::turns(n)).rev() {
         let place = s.place;
         s = halving::narrow(s, k < ekeys[place]);
-        left -= 1;
     }
     let place = s.place;
     let found = halving::end(s, 0, k < ekeys[place]);
@@ -181,25 +154,25 @@ fn halve(n: usize, ekeys: &[u64], k: u64) -> usize
 
 // Rule 19.7: what entries say of a clue, by halving, whatever they are: a final hop, or that a search has to follow.
 #[tactic(auto, using(crate::proofs::QuickOutcomes::room_within, crate::proofs::QuickOutcomes::quick_long))]
-pub fn quick(ekeys: &[u64], ehops: &[u16], marks: &[u8], len: u32, a: u32) -> Told
+pub fn quick(ekeys: &[u64], ehops: &[u16], marks: &[u8], len: u32, a: u32) -> Option<u16>
     ensures { quick_gave result
         ≡ quick_lookup (entries_lent ekeys.now ehops.now marks.now) len a }
 {
     let n = order::entry_room(ekeys, ehops, marks);
     if n == 0 {
-        return Told::Search;
+        return None;
     }
     let bits = len as u64;
     if 32 < bits {
-        return Told::Search;
+        return None;
     }
     let key = entry::clue_key(bits, a as u64);
     let place = halve(n, ekeys, key);
     if ekeys[place] != key {
-        return Told::Search;
+        return None;
     }
     if marks[place] != 0 {
-        return Told::Search;
+        return None;
     }
-    Told::Final(ehops[place])
+    Some(ehops[place])
 }

@@ -6,11 +6,11 @@ ghost use Rattle.clue_host.specs.Exports.{host_entries_gave, hint_for_c, quick_f
 ghost use Rattle.std.specs.Prelude.{◌≡◌, []};
 ghost use Rattle.routes.specs.Row.{list_lent};
 ghost use Rattle.entries.specs.Entries.{entries_lent};
-ghost use Rattle.clue.specs.Build.{made, entries_gave, build_entries};
+ghost use Rattle.clue.specs.Build.{entries_gave, build_entries};
 ghost use Rattle.clue.specs.Lookup.{hint_gave, hint_lookup};
 ghost use Rattle.clue.specs.Quick.{quick_gave, quick_lookup};
 
-use clue::{Entered, Hinted, Told};
+use clue::{Hinted, Refusal};
 
 // Rule 19.8: what a build of entries returns to C, its number and how many entries there are.
 #[repr(C)]
@@ -20,34 +20,18 @@ pub struct WhelkEntries {
     pub count: usize,
 }
 
-// 15, 11, 14 and 13 (rule 5.1).
-const BAD_LENGTH: u64 = 15;
+// Rule 19.8: a build as C gets it. Rule 5.4: of a refusal the number, and 0 for the count.
+impl From<Result<usize, Refusal>> for WhelkEntries {
+    ghost from_gives = { λ r w. host_entries_gave w [] [] [] ≡ entries_gave r [] [] [] };
 
-const ILL_FORMED: u64 = 11;
-
-const NOT_ITS_ENTRIES: u64 = 14;
-
-const NO_ROOM: u64 = 13;
-
-// Rule 5.4: a refused build's number, and 0 for the count.
-fn not_built(number: u64) -> WhelkEntries
-    ensures { host_entries_gave result [] [] [] ≡ made number 0 (entries_lent [] [] []) }
-{
-    WhelkEntries {
-        number: number as usize,
-        count: 0,
-    }
-}
-
-// Rule 19.8: a build as C gets it.
-fn entered_for_c(r: Entered) -> WhelkEntries
-    ensures { host_entries_gave result [] [] [] ≡ entries_gave r [] [] [] }
-{
-    match r {
-        Entered::Entries(count) => WhelkEntries { number: 0, count },
-        Entered::BadLength => not_built(BAD_LENGTH),
-        Entered::IllFormed => not_built(ILL_FORMED),
-        Entered::NoRoom => not_built(NO_ROOM),
+    fn from(r: Result<usize, Refusal>) -> WhelkEntries {
+        match r {
+            Ok(count) => WhelkEntries { number: 0, count },
+            Err(e) => WhelkEntries {
+                number: u64::from(e) as usize,
+                count: 0,
+            },
+        }
     }
 }
 
@@ -66,7 +50,7 @@ pub fn whelk_clue_build(
         ≡ build_entries (list_lent count keys.now hops.now) lengths.now addresses.now
         (entries_lent ekeys.old ehops.old marks.old) }
 {
-    entered_for_c(clue::build(count, keys, hops, lengths, addresses, ekeys, ehops, marks))
+    clue::build(count, keys, hops, lengths, addresses, ekeys, ehops, marks).into()
 }
 
 // In the one number that C gets of a lookup, its number stands above the hop, and above both whether the hop was stored. What the quick
@@ -77,15 +61,13 @@ pub const HIGH_UNIT: u64 = 4294967296;
 
 // Rule 19.8: a lookup with a hint gives C hop + 65,536 × number, and 4,294,967,296 more where the hop was stored.
 #[tactic(auto, unfolding(crate::specs::Exports::hint_for_c, entries::specs::Entries::mark))]
-fn hint_for_c(r: Hinted) -> u64
+fn hint_for_c(r: Result<Hinted, Refusal>) -> u64
     ensures { result ≡ hint_for_c (hint_gave r) }
 {
     match r {
-        Hinted::Final(h) => HIGH_UNIT + h as u64,
-        Hinted::Searched(h) => h as u64,
-        Hinted::BadLength => NUMBER_UNIT * BAD_LENGTH,
-        Hinted::IllFormed => NUMBER_UNIT * ILL_FORMED,
-        Hinted::NotItsEntries => NUMBER_UNIT * NOT_ITS_ENTRIES,
+        Ok(Hinted::Final(hop)) => HIGH_UNIT + u64::from(hop),
+        Ok(Hinted::Searched(hop)) => u64::from(hop),
+        Err(e) => NUMBER_UNIT * u64::from(e),
     }
 }
 
@@ -110,12 +92,12 @@ pub fn whelk_clue_lookup(
 
 // Rule 19.8: the quick form gives C 65,536 + hop where the hop is final, and 0 where a search has to follow.
 #[tactic(auto, unfolding(crate::specs::Exports::quick_for_c, entries::specs::Entries::mark))]
-fn told_for_c(r: Told) -> u32
+fn told_for_c(r: Option<u16>) -> u32
     ensures { result ≡ quick_for_c (quick_gave r) }
 {
     match r {
-        Told::Final(h) => NUMBER_UNIT as u32 + h as u32,
-        Told::Search => 0,
+        Some(hop) => NUMBER_UNIT as u32 + u32::from(hop),
+        None => 0,
     }
 }
 

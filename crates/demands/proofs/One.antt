@@ -14,24 +14,23 @@ use native.Mathlib.Omega.{arith}
 use lib.ListN.{length, get_or, take}
 use lib.Dec.{eqb}
 use borrow.Author.Tests.{ne_eqb}
+use Rattle.std.specs.Prelude as code
+use Rattle.std.specs.Prelude.{Result, Ok, Err}
+use Rattle.ground.specs.declared.Refusal.{Refusal}
+use Rattle.ground.specs.declared.Refusal.TheVariants.{ReportShort}
 use Rattle.ground.specs.Numbers.{first_fault, outcome, done}
 use Rattle.ground.proofs.Truth.{cond_false}
-use Rattle.ground.proofs.Numbers.{outcome_refused}
-use Rattle.routes.specs.declared.Looked.{Looked}
+use Rattle.ground.proofs.Numbers.{outcome_refused, one_number}
 use Rattle.routes.specs.Row.{ListLent, list_room}
 use Rattle.routes.specs.Lookup.{looked_up, LookupOutcome, lookup_gave, plain_lookup, lookup_checks, half_lookup, half_checks}
 use Rattle.rows.specs.Rows.{rows_in}
 use Rattle.rows.specs.RowNumber.{row_taken, row_shape, row_zeros, row_range, row_host_bits, row_replaced, row_no_room}
 use Rattle.feed.specs.declared.Counts.{Counts}
-use Rattle.feed.specs.declared.Imported.{Imported}
-use Rattle.feed.specs.declared.ImportEnd.{ImportEnd}
-use Rattle.feed.specs.declared.ImportEnd.TheVariants.{Done, ReportShort}
 use Rattle.feed.specs.Counts.{rows_with}
 use Rattle.feed.specs.Import.{ImportLent, ImportOutcome, import_gave, import, import_checks, import_refused, row_numbers, end_number, TallyGave}
 use Rattle.feed.proofs.Promise.{rows_are_taken_replaced_refused, rows_are_all_rows, report_has_numbers}
-use Rattle.feed.proofs.TallyPromise.{tally_is_counts, tally_untouched}
-use Rattle.runs.specs.declared.Built.{Built}
-use Rattle.runs.specs.declared.Paired.{Paired}
+use Rattle.feed.proofs.TallyPromise.{done_as_import, tally_untouched}
+use Rattle.feed.proofs.Outcome.{not_done_is_refused}
 use Rattle.lookup.specs.declared.Probed.{Probed}
 use Rattle.lookup.specs.declared.Held.{Held}
 use Rattle.runs.specs.Table.{RunsLent}
@@ -40,18 +39,15 @@ use Rattle.lookup.specs.Bytes.{hop_at}
 use Rattle.lookup.specs.Lookup.{RunLookupOutcome, probed, run_lookup_gave, run_lookup, run_checks}
 use Rattle.lookup.specs.Lookup.{BytesLookupOutcome, held, bytes_lookup_gave, bytes_lookup, bytes_checks}
 use Rattle.runs.specs.Pair.{Pair, pair_gave, pair_check, pair_checks}
-use Rattle.text.specs.declared.Written.{Written}
 use Rattle.text.specs.Text.{WriteOutcome, wrote, write_gave, write, write_checks}
 use Rattle.why.specs.declared.Reason.{Reason}
 use Rattle.why.specs.Why.{WhyOutcome, told, why_gave, why, why_checks}
 use Rattle.why.specs.Text.{why_text, why_text_checks}
-use Rattle.segment.specs.declared.Packing.{Packing}
-use Rattle.packed.specs.declared.PackedHop.{PackedHop}
+use Rattle.segment.specs.declared.Packed.{Packed}
 use Rattle.segment.specs.Pack.{PackLent, PackOutcome, pack_refused, pack_gave, pack, pack_checks}
 use Rattle.packed.specs.Lookup.{SegmentLent, packed_gave, packed_lookup, packed_checks}
 use Rattle.edit.specs.declared.Edit.{Edit}
 use Rattle.edit.specs.Edit.{Edited, edit_refused, edit_gave, announce, announce_checks, withdraw, withdraw_checks}
-use Rattle.split.specs.declared.Parted.{Parted}
 use Rattle.split.specs.Split.{SplitLent, SplitOutcome, split_into, split_gave, split, split_checks}
 use Rattle.c_answers.specs.Exports.{lookup_for_c, run_lookup_for_c, probed_gave_c, probed_for_c}
 use Rattle.host.specs.Exports.{HeldForC, held_gave_c, held_for_c, held_checks}
@@ -72,7 +68,7 @@ import_first : (feed : List ℕ) (l : ImportLent) → First (λ (o : ImportOutco
 unfolding import
 import_first feed l = first_of (λ (o : ImportOutcome). o.number) _ _ _ (λ n. refl) refl (orders.imports feed l) _ refl
 
-tally_first : (feed : List ℕ) (l : ImportLent) (tally : Counts) (r : ImportEnd) (keys hops report : List ℕ) (left : Counts)
+tally_first : (feed : List ℕ) (l : ImportLent) (tally : Counts) (r : Result (Unit {0}) Refusal) (keys hops report : List ℕ) (left : Counts)
     → TallyGave feed l tally r keys hops report left → TallyFirst feed l tally (end_number r) keys hops report left
 tally_first feed l tally r keys hops report left g = record {
   names_first = g.number ∙ (import_first feed l).names_first;
@@ -82,13 +78,14 @@ tally_first feed l tally r keys hops report left g = record {
         g.keys_left ∙ ap (λ (o : ImportOutcome). o.keys) is,
         g.hops_left ∙ ap (λ (o : ImportOutcome). o.hops) is,
         g.report_left ∙ ap (λ (o : ImportOutcome). o.report) is,
-        tally_untouched feed l tally g (short r fault),
+        tally_untouched feed l tally g (short r g.number fault),
       );
 }
   where
-    short : (r : ImportEnd) → (end_number r ≡ done → ⊥) → r ≡ ReportShort
-    short Done fault = absurd (fault refl)
-    short ReportShort fault = refl
+    short : (r : Result (Unit {0}) Refusal) → end_number r ≡ (import feed l).number → (end_number r ≡ done → ⊥) → r ≡ Err ReportShort
+    short (Ok u) is fault = absurd (fault refl)
+    short (Err e) is fault =
+        ap Err (one_number e ReportShort (is ∙ ap (λ (o : ImportOutcome). o.number) (not_done_is_refused feed l (λ z. fault (is ∙ z)))))
 
 -- a hop in run bytes is a number of two bytes, so C finds the number above it
 module _ (bytes : List ℕ) (a : ℕ) (small : (i : ℕ) → get_or bytes i 0 < 256) where
@@ -120,20 +117,20 @@ probed_left t a last r left e fault =
     (ap (probed_gave_c (run_lookup_for_c (probed n 0 0 0))) (cond_false _ _ (ne_eqb n done fault)))
 
 pub record One : Type 0 where
-  pub plain_lookup_lem : (l : ListLent) (a : ℕ) (r : Looked) → lookup_gave r ≡ plain_lookup l a
+  pub plain_lookup_lem : (l : ListLent) (a : ℕ) (r : Result ℕ Refusal) → lookup_gave r ≡ plain_lookup l a
       → First looked (lookup_checks l) (λ n. looked_up n 0) (lookup_gave r)
-  pub half_lookup_lem : (l : ListLent) (a : ℕ) (r : Looked) → lookup_gave r ≡ half_lookup l a
+  pub half_lookup_lem : (l : ListLent) (a : ℕ) (r : Result ℕ Refusal) → lookup_gave r ≡ half_lookup l a
       → First looked (half_checks l) (λ n. looked_up n 0) (lookup_gave r)
-  pub imports : (feed : List ℕ) (l : ImportLent) (r : Imported) (keys hops report : List ℕ) → import_gave r keys hops report ≡ import feed l
+  pub imports : (feed : List ℕ) (l : ImportLent) (r : Result Counts Refusal) (keys hops report : List ℕ) → import_gave r keys hops report ≡ import feed l
       → First (λ o. o.number) (import_checks feed l) (import_refused l) (import_gave r keys hops report)
-  pub tally : (feed : List ℕ) (l : ImportLent) (tally : Counts) (r : ImportEnd) (keys hops report : List ℕ) (left : Counts)
+  pub tally : (feed : List ℕ) (l : ImportLent) (tally : Counts) (r : Result (Unit {0}) Refusal) (keys hops report : List ℕ) (left : Counts)
       → TallyGave feed l tally r keys hops report left → TallyFirst feed l tally (end_number r) keys hops report left
-  pub builds : (half : Bool) (l : ListLent) (s : SlotsLent) (r : Built) (starts hops : List ℕ) → build_gave r starts hops ≡ build_of half l s
+  pub builds : (half : Bool) (l : ListLent) (s : SlotsLent) (r : Result ℕ Refusal) (starts hops : List ℕ) → build_gave r starts hops ≡ build_of half l s
       → First (λ o. o.number) (build_checks half l s) (λ n. built n 0 s.starts s.hops) (build_gave r starts hops)
-  pub pair_check_lem : (p : Pair) (r : Paired) → pair_gave r ≡ pair_check p → (pair_gave r ≡ first_fault (pair_checks p)) × InOrder (pair_checks p)
-  pub run_lookup_lem : (t : RunsLent) (a : ℕ) (r : Probed) → run_lookup_gave r ≡ run_lookup t a
+  pub pair_check_lem : (p : Pair) (r : Result (Unit {0}) Refusal) → pair_gave r ≡ pair_check p → (pair_gave r ≡ first_fault (pair_checks p)) × InOrder (pair_checks p)
+  pub run_lookup_lem : (t : RunsLent) (a : ℕ) (r : Result Probed Refusal) → run_lookup_gave r ≡ run_lookup t a
       → First (λ o. o.number) (run_checks t) (λ n. probed n 0 0 0) (run_lookup_gave r)
-  pub bytes_lookup_lem : (bytes : List ℕ) (a : ℕ) (r : Held) → bytes_lookup_gave r ≡ bytes_lookup bytes a
+  pub bytes_lookup_lem : (bytes : List ℕ) (a : ℕ) (r : Result Held Refusal) → bytes_lookup_gave r ≡ bytes_lookup bytes a
       → First (λ o. o.number) (bytes_checks bytes) (λ n. held n 0 0) (bytes_lookup_gave r)
   pub bytes_lookup_for_c : (bytes : List ℕ) (a : ℕ) → ((i : ℕ) → get_or bytes i 0 < 256) → (last : List ℕ) (r : ℕ) (left : List ℕ)
       → held_gave_c r left ≡ held_for_c bytes a last
@@ -141,23 +138,23 @@ pub record One : Type 0 where
   pub run_lookup_for_c_lem : (t : RunsLent) (a last r left : ℕ) → probed_gave_c r left ≡ probed_for_c (run_lookup t a) last
       → (first_fault (run_checks t) ≡ done → ⊥)
       → probed_gave_c r left ≡ probed_gave_c (run_lookup_for_c (probed (first_fault (run_checks t)) 0 0 0)) last
-  pub packs : (q : ℕ) (p : Pair) (l : PackLent) (r : Packing) (words bases hops : List ℕ) → pack_gave r words bases hops ≡ pack q p l
+  pub packs : (q : ℕ) (p : Pair) (l : PackLent) (r : Result Packed Refusal) (words bases hops : List ℕ) → pack_gave r words bases hops ≡ pack q p l
       → First (λ o. o.number) (pack_checks q p l) (pack_refused l) (pack_gave r words bases hops)
-  pub packed_lookup_lem : (s : SegmentLent) (a : ℕ) (r : PackedHop) → packed_gave r ≡ packed_lookup s a
+  pub packed_lookup_lem : (s : SegmentLent) (a : ℕ) (r : Result ℕ Refusal) → packed_gave r ≡ packed_lookup s a
       → First looked (packed_checks s a) (λ n. looked_up n 0) (packed_gave r)
-  pub announces : (net len hop : ℕ) (p : Pair) (r : Edit) (keys hops starts rhops : List ℕ)
+  pub announces : (net len hop : ℕ) (p : Pair) (r : Result Edit Refusal) (keys hops starts rhops : List ℕ)
       → edit_gave r keys hops starts rhops ≡ announce net len hop p
       → First (λ o. o.number) (announce_checks net len hop p) (edit_refused p) (edit_gave r keys hops starts rhops)
-  pub withdraws : (net len : ℕ) (p : Pair) (r : Edit) (keys hops starts rhops : List ℕ)
+  pub withdraws : (net len : ℕ) (p : Pair) (r : Result Edit Refusal) (keys hops starts rhops : List ℕ)
       → edit_gave r keys hops starts rhops ≡ withdraw net len p
       → First (λ o. o.number) (withdraw_checks net len p) (edit_refused p) (edit_gave r keys hops starts rhops)
-  pub splits : (k : ℕ) (l : ListLent) (out : SplitLent) (r : Parted) (keys labels : List ℕ) → split_gave r keys labels ≡ split k l out
+  pub splits : (k : ℕ) (l : ListLent) (out : SplitLent) (r : Result ℕ Refusal) (keys labels : List ℕ) → split_gave r keys labels ≡ split k l out
       → First (λ o. o.number) (split_checks k l out) (λ n. split_into n 0 out.keys out.labels) (split_gave r keys labels)
-  pub writes : (l : ListLent) (buffer : List ℕ) (r : Written) (out : List ℕ) → write_gave r out ≡ write l buffer
+  pub writes : (l : ListLent) (buffer : List ℕ) (r : Result ℕ Refusal) (out : List ℕ) → write_gave r out ≡ write l buffer
       → First (λ o. o.number) (write_checks l buffer) (λ n. wrote n 0 buffer) (write_gave r out)
-  pub whys : (l : ListLent) (a : ℕ) (places : List ℕ) (r : Reason) (left : List ℕ) → why_gave r left ≡ why l a places
+  pub whys : (l : ListLent) (a : ℕ) (places : List ℕ) (r : Result (code.Option Reason) Refusal) (left : List ℕ) → why_gave r left ≡ why l a places
       → First (λ o. o.number) (why_checks l a places) (λ n. told n 0 none places) (why_gave r left)
-  pub why_texts : (l : ListLent) (a : ℕ) (buffer : List ℕ) (r : Written) (out : List ℕ) → write_gave r out ≡ why_text l a buffer
+  pub why_texts : (l : ListLent) (a : ℕ) (buffer : List ℕ) (r : Result ℕ Refusal) (out : List ℕ) → write_gave r out ≡ why_text l a buffer
       → First (λ o. o.number) (why_text_checks l a buffer) (λ n. wrote n 0 buffer) (write_gave r out)
 
 pub refusals : One
@@ -202,8 +199,8 @@ pub record EveryRow (feed : List ℕ) (l : ImportLent) (c : Counts) (report : Li
       + (rows_with row_shape c + (rows_with row_zeros c + (rows_with row_range c + (rows_with row_host_bits c + rows_with row_no_room c)))))
   pub each_numbered : take c.rows report ≡ row_numbers (list_room l.keys l.hops) feed
 
-pub every_row : (feed : List ℕ) (l : ImportLent) (r : Imported) (keys hops report : List ℕ) → import_gave r keys hops report ≡ import feed l
-    → r.end ≡ Done → EveryRow feed l r.counts report
+pub every_row : (feed : List ℕ) (l : ImportLent) (r : Result Counts Refusal) {c : Counts} (keys hops report : List ℕ) → import_gave r keys hops report ≡ import feed l
+    → r ≡ Ok c → EveryRow feed l c report
 every_row feed l r keys hops report g ended = record {
   all_rows_lem = rows_are_all_rows feed l g ended;
   taken_replaced_refused = rows_are_taken_replaced_refused feed l g ended;
@@ -211,10 +208,7 @@ every_row feed l r keys hops report g ended = record {
 }
 
 -- the same of the counts in a lent tally
-pub every_row_tally : (feed : List ℕ) (l : ImportLent) (tally : Counts) (r : ImportEnd) (keys hops report : List ℕ) (left : Counts)
-    → TallyGave feed l tally r keys hops report left → r ≡ Done → EveryRow feed l left report
+pub every_row_tally : (feed : List ℕ) (l : ImportLent) (tally : Counts) (r : Result (Unit {0}) Refusal) (keys hops report : List ℕ) (left : Counts)
+    → TallyGave feed l tally r keys hops report left → r ≡ Ok tt → EveryRow feed l left report
 every_row_tally feed l tally r keys hops report left g ended =
-    let i : Imported = record { end = Done; counts = (import feed l).counts } in
-    let gave : import_gave (record { end = Done; counts = (import feed l).counts }) keys hops report ≡ import feed l =
-    rw (g.keys_left, g.hops_left, g.report_left) (rw (sym g.number ∙ ap end_number ended)) in
-    rw (tally_is_counts feed l tally g ended i gave) (every_row feed l i keys hops report gave refl)
+    every_row feed l (Ok left) keys hops report (done_as_import feed l tally g ended) refl

@@ -8,12 +8,13 @@
 use mathlib.Core.Path.{◌≡◌, ◌∙◌}
 use mathlib.Core.List.{List}
 use Prim.Native.Nat.{ℕ, ◌≤◌}
+use Rattle.std.specs.Prelude.{Result, Ok, Err}
+use Rattle.ground.specs.declared.Refusal.{Refusal}
 use Rattle.ground.specs.Numbers.{done}
 use Rattle.cidr.specs.Prefix.{key_of}
 use Rattle.routes.specs.Row.{Row, row}
 use Rattle.routes.specs.Change.{announced, withdrawn}
 use Rattle.routes.proofs.Row.{Has}
-use Rattle.runs.specs.declared.Built.{Built}
 use Rattle.runs.specs.Build.{SlotsLent, build_gave, build, run_room}
 use Rattle.runs.specs.Pair.{Pair, list_of, pair_check}
 use Rattle.edit.specs.Edit.{Edited, announce, after_announce, withdraw, after_withdraw}
@@ -28,7 +29,7 @@ pub record Three (k : ℕ) (after : List Row) (p : Pair) (o : Edited) : Type 0 w
   -- the list that it left is the edited one
   pub list : list_of (edited o) ≡ after
   -- a fresh build of that list, into slices with room, is accepted and gives the count, the starts and the hops that it left
-  pub fresh_build : (s : SlotsLent) → o.runs ≤ run_room s.starts s.hops → (b : Built) (starts hops : List ℕ)
+  pub fresh_build : (s : SlotsLent) → o.runs ≤ run_room s.starts s.hops → (b : Result ℕ Refusal) (starts hops : List ℕ)
       → build_gave b starts hops ≡ build (edited o).list s → Rebuilt o (build_gave b starts hops)
   -- list and run table agree again
   pub agrees : pair_check (edited o) ≡ done

@@ -13,6 +13,8 @@ use native.Mathlib.Omega.{arith}
 use lib.ListN.{length, get_or, take}
 use lib.Dec.{eqb}
 use borrow.Author.Tests.{eqb-true, eqb-false, ltb-false}
+use Rattle.std.specs.Prelude.{Result, Ok, Err}
+use Rattle.ground.specs.declared.Refusal.{Refusal}
 use Rattle.ground.specs.Slots.{written}
 use Rattle.ground.proofs.Truth.{decided}
 use Rattle.ground.proofs.Slots.{take_written}
@@ -21,8 +23,6 @@ use Rattle.ground.specs.Numbers.{done}
 use Rattle.cidr.specs.Prefix.{addresses}
 use Rattle.routes.specs.Row.{Row, list_lent, rows_lent, list_room}
 use Rattle.routes.specs.Plain.{plain}
-use Rattle.feed.specs.declared.Imported.{Imported}
-use Rattle.feed.specs.declared.ImportEnd.TheVariants.{Done}
 use Rattle.feed.specs.Import.{ImportLent, import_gave, import, imported_list}
 use Rattle.feed.proofs.Promise.{left_is_imported}
 use Rattle.runs.specs.Table.{runs_lent, run_starts, run_hops}
@@ -51,10 +51,7 @@ module _ (feed : List ℕ) (l : ImportLent) (w : WhelkCounts) (keys hops report 
     (build_is : build_gave_c b starts rhops ≡ build_for_c (build (list_lent w.taken keys hops) s)) (build_done : b / 4294967296 ≡ done)
     (slots : (j : ℕ) → get_or rhops j 0 < 65536) where
   -- the list that the import left has the feed's rows
-  r : Imported
-  r = record { end = Done; counts = counts_in w }
-
-  gave : import_gave (record { end = Done; counts = counts_in w }) keys hops report ≡ import feed l
+  gave : import_gave (Ok (counts_in w)) keys hops report ≡ import feed l
   gave = rw (← import_done) imported
 
   rows_are : rows_lent (list_lent w.taken keys hops) ≡ imported_list (list_room l.keys l.hops) feed

@@ -18,42 +18,41 @@ use Rattle.runs.specs.Table.{run_starts, run_hops}
 use Rattle.runs.specs.Build.{run_room}
 use Rattle.runs.specs.Pair.{Pair, list_of, pair_check}
 use Rattle.runs.proofs.Agreed.{agreed_half, agreed_keys, agreed_starts, agreed_hops}
-use Rattle.runs.proofs.WholeList.{slices_rows, slices_sorted}
-use Rattle.sweep.specs.Sweep.{all_rows, Sorted}
-use Rattle.plan.specs.declared.hops.Found.{Found}
+use Rattle.runs.proofs.WholeList.{slices_rows}
+use Rattle.sweep.specs.Sweep.{all_rows}
+use Rattle.std.specs.Prelude.{Result, IsOk}
 use Rattle.plan.specs.declared.Plan.{Plan}
 use Rattle.edit.specs.Edit.{edit_outcome, edit_refused, exceeds}
-use Rattle.plan.specs.Found.{FoundIn}
+use Rattle.plan.specs.Found.{FoundIn, stands}
+use Rattle.plan.proofs.Found.{stands_ok}
 use Rattle.plan.specs.Edited.{edited_rows}
 use Rattle.edit.specs.Inside.Local.{edit_agreed}
 use Rattle.plan.specs.Plan.{Planned}
 use Rattle.edit.specs.Inside.Writing.{MayWrite, Wrote}
 use Rattle.edit.proofs.Outcomes.{agreed_unlisted, agreed_full, agreed_fits}
 
-module _ (p : Pair) (agreed : pair_check p ≡ done) (k h : ℕ) {f : Found} (found : FoundIn (take p.list.count p.list.keys) k f) where
+module _ (p : Pair) (agreed : pair_check p ≡ done) (k h : ℕ) {f : Result ℕ ℕ} (found : FoundIn (take p.list.count p.list.keys) k f) where
   same_list : all_rows (take p.list.count p.list.keys) (take p.list.count p.list.hops) ≡ list_of p
   same_list = slices_rows p.list.count p.list.keys p.list.hops (agreed_half p agreed)
 
   -- the place says whether the prefix is listed
-  told : (eqb h 0 && not f.listed) ≡ (eqb h 0 && not (listed k (list_of p)))
+  told : (eqb h 0 && not (stands f)) ≡ (eqb h 0 && not (listed k (list_of p)))
   told = ap (λ b. eqb h 0 && not b) (found.listed_is ∙ ap (is_in k) (sym (agreed_keys p agreed)))
 
-  pub unlisted : {b : Bool} → b ≡ (eqb h 0 && not f.listed) → b ≡ true → edit_refused p not_listed ≡ edit_agreed k h p
+  pub unlisted : {b : Bool} → b ≡ (eqb h 0 && not (stands f)) → b ≡ true → edit_refused p not_listed ≡ edit_agreed k h p
   unlisted e q = agreed_unlisted k h p (sym told ∙ sym e ∙ q)
 
-  module _ {b : Bool} (e : b ≡ (eqb h 0 && not f.listed)) (q : b ≡ false) where
-    may : h ≡ 0 → f.listed ≡ true
-    may z = not-false f.listed (rw (eq-eqb h 0 z) at (sym e ∙ q))
+  module _ {b : Bool} (e : b ≡ (eqb h 0 && not (stands f))) (q : b ≡ false) where
+    may : h ≡ 0 → IsOk f
+    may z = stands_ok f (not-false (stands f) (rw (eq-eqb h 0 z) at (sym e ∙ q)))
 
     -- what the plan asks
-    pub plan_asks : Sorted (take p.list.count p.list.keys) (take p.list.count p.list.hops)
-        × (take p.table.count p.table.starts
+    pub plan_asks : (take p.table.count p.table.starts
         ≡ run_starts (all_rows (take p.list.count p.list.keys) (take p.list.count p.list.hops)))
         × (take p.table.count p.table.hops
         ≡ run_hops (all_rows (take p.list.count p.list.keys) (take p.list.count p.list.hops)))
-        × (h ≡ 0 → f.listed ≡ true)
+        × (h ≡ 0 → IsOk f)
     plan_asks = (
-      slices_sorted p.list.count p.list.keys p.list.hops (agreed_half p agreed),
       agreed_starts p agreed ∙ ap run_starts (sym same_list),
       agreed_hops p agreed ∙ ap run_hops (sym same_list),
       may,

@@ -2,16 +2,18 @@
 -- Assumes nothing.
 use mathlib.Core.Path.{◌≡◌, sym, ap, ◌∙◌}
 use mathlib.Core.Bool.{true, false, not, ◌&&◌}
+use mathlib.Core.List.{◌++◌}
 use Prim.Native.Nat.{ℕ}
 use lib.Dec.{eqb}
 use borrow.Author.Tests.{eq-eqb, ne_eqb}
-use Rattle.ground.specs.Numbers.{first_fault, outcome, done, ill_formed, no_room, not_its_runs, bad_edit, not_listed}
+use Rattle.ground.specs.Numbers.{first_fault, outcome, number_of, done, no_room, bad_edit, not_listed}
 use Rattle.ground.proofs.Truth.{or_left, or_right}
-use Rattle.ground.proofs.Numbers.{outcome_here, outcome_later, outcome_last}
+use Rattle.ground.proofs.Numbers.{outcome_here, outcome_later, outcome_last, outcome_refused, front_fault, number_some}
+use Rattle.ground.specs.declared.Refusal.{Refusal}
 use Rattle.cidr.specs.Prefix.{key_of}
 use Rattle.routes.specs.Change.{listed}
 use Rattle.runs.specs.Pair.{Pair, list_of, pair_checks, pair_check}
-use Rattle.runs.proofs.TableOutcomes.{pair_agrees, pair_is_ill, pair_is_other}
+use Rattle.runs.proofs.TableOutcomes.{pair_agrees}
 use Rattle.edit.specs.Edit.{edit_refused, edit_done, bad_prefix, exceeds}
 use Rattle.edit.specs.Edit.{announce, announce_checks, after_announce, withdraw, withdraw_checks, after_withdraw}
 use Rattle.plan.specs.Edited.{edited_rows}
@@ -19,15 +21,10 @@ use Rattle.edit.specs.Inside.Local.{local_checks, edit_agreed, edit_pair}
 
 -- the pair's checks
 module _ (k h : ℕ) (p : Pair) where
-  pub edit_ill : pair_check p ≡ ill_formed → edit_refused p ill_formed ≡ edit_pair k h p
-  unfolding edit_pair pair_checks
-  edit_ill e = sym (outcome_here 10 _ _ _ (pair_is_ill p e))
-
-  pub edit_other : pair_check p ≡ not_its_runs → edit_refused p not_its_runs ≡ edit_pair k h p
-  unfolding edit_pair pair_checks
-  edit_other e =
-      let w = pair_is_other p e in
-      sym (outcome_later 11 _ _ _ w.0 ∙ outcome_here 13 _ _ _ (ap not w.1))
+  pub edit_refused_lem : (e : Refusal) → number_of e ≡ pair_check p → edit_refused p (number_of e) ≡ edit_pair k h p
+  unfolding edit_pair pair_check
+  edit_refused_lem e is =
+      sym (outcome_refused (pair_checks p ++ local_checks k h p) _ _ (number_of e) (front_fault (pair_checks p) _ (sym is) (number_some e)) (number_some e))
 
   pub edit_agreed_lem : pair_check p ≡ done → edit_agreed k h p ≡ edit_pair k h p
   unfolding edit_pair edit_agreed pair_checks

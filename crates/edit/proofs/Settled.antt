@@ -6,43 +6,38 @@ use mathlib.Core.Bool.{cond}
 use mathlib.Core.List.{List}
 use Prim.Native.Nat.{ℕ}
 use lib.Dec.{eqb}
-use Rattle.ground.specs.Numbers.{done, ill_formed, not_its_runs, bad_edit, not_listed}
+use Rattle.ground.specs.Numbers.{done}
 use Rattle.runs.specs.Pair.{Pair}
 use Rattle.edit.specs.declared.Edit.{Edit}
-use Rattle.edit.specs.declared.Edit.TheVariants as E
+use Rattle.std.specs.Prelude.{Result, Ok, Err}
+use Rattle.ground.specs.declared.Refusal.{Refusal}
+use Rattle.ground.proofs.Numbers.{refusal_by, number_tells, number_not_done}
 use Rattle.edit.specs.Edit.{Edited, edit_gave, announce, withdraw}
 
 -- the answer can be told from the outcome
-abbrev answer_of : Edited → Edit
+abbrev answer_of : Edited → Result Edit Refusal
 answer_of o =
-    cond (eqb o.number done) (E.Done o.changed o.count o.runs)
-    (cond (eqb o.number bad_edit) E.BadEdit
-    (cond (eqb o.number ill_formed) E.IllFormed
-    (cond (eqb o.number not_its_runs) E.NotItsRuns (cond (eqb o.number not_listed) E.NotListed E.NoRoom))))
+    cond (eqb o.number done) (Ok (record { changed = o.changed; count = o.count; runs = o.runs })) (Err (refusal_by o.number))
 
 -- what the answer and the four slices at exit are, told by the outcome
-pub record Told (o : Edited) (r : Edit) (keys hops starts rhops : List ℕ) : Type 0 where
+pub record Told (o : Edited) (r : Result Edit Refusal) (keys hops starts rhops : List ℕ) : Type 0 where
   pub answer : answer_of o ≡ r
   pub keys_are : o.keys ≡ keys
   pub hops_are : o.hops ≡ hops
   pub starts_are : o.starts ≡ starts
   pub rhops_are : o.rhops ≡ rhops
 
-tells : (r : Edit) (keys hops starts rhops : List ℕ) → Told (edit_gave r keys hops starts rhops) r keys hops starts rhops
-tells (E.Done c n m) keys hops starts rhops =
-    record { answer = refl; keys_are = refl; hops_are = refl; starts_are = refl; rhops_are = refl }
-tells E.BadEdit keys hops starts rhops =
-    record { answer = refl; keys_are = refl; hops_are = refl; starts_are = refl; rhops_are = refl }
-tells E.IllFormed keys hops starts rhops =
-    record { answer = refl; keys_are = refl; hops_are = refl; starts_are = refl; rhops_are = refl }
-tells E.NotItsRuns keys hops starts rhops =
-    record { answer = refl; keys_are = refl; hops_are = refl; starts_are = refl; rhops_are = refl }
-tells E.NotListed keys hops starts rhops =
-    record { answer = refl; keys_are = refl; hops_are = refl; starts_are = refl; rhops_are = refl }
-tells E.NoRoom keys hops starts rhops =
-    record { answer = refl; keys_are = refl; hops_are = refl; starts_are = refl; rhops_are = refl }
+tells : (r : Result Edit Refusal) (keys hops starts rhops : List ℕ) → Told (edit_gave r keys hops starts rhops) r keys hops starts rhops
+tells (Ok e) keys hops starts rhops = record { answer = refl; keys_are = refl; hops_are = refl; starts_are = refl; rhops_are = refl }
+tells (Err e) keys hops starts rhops = record {
+  answer = rw number_not_done (ap Err (number_tells e));
+  keys_are = refl;
+  hops_are = refl;
+  starts_are = refl;
+  rhops_are = refl;
+}
 
-module _ (r r' : Edit) (k k' h h' s s' t t' : List ℕ) where
+module _ (r r' : Result Edit Refusal) (k k' h h' s s' t t' : List ℕ) where
   edit_settled : (o : Edited) → edit_gave r k h s t ≡ o → edit_gave r' k' h' s' t' ≡ o
       → (r ≡ r') × (k ≡ k') × (h ≡ h') × (s ≡ s') × (t ≡ t')
   edit_settled o e e' =

@@ -9,7 +9,7 @@ use native.Mathlib.Omega.{arith}
 use lib.ListN.{length, take, drop}
 use lib.Seq.{length-take-le, take-take}
 use Rattle.ground.specs.Slots.{rewritten}
-use Rattle.ground.proofs.Column.{drop_take}
+use Rattle.ground.proofs.Moves.{drop_take}
 use Rattle.cidr.specs.Prefix.{network, end_of}
 use Rattle.routes.specs.Row.{keys_of, hops_of, list_room}
 use Rattle.routes.specs.WellFormed.{half_formed}
@@ -19,7 +19,7 @@ use Rattle.runs.specs.Pair.{Pair, list_of}
 use Rattle.runs.proofs.Agreed.{agreed_half, agreed_room}
 use Rattle.runs.proofs.WholeList.{in_keys, in_hops, in_starts, in_rhops, slices_rows, slices_sorted}
 use Rattle.sweep.specs.Sweep.{all_rows, answer, Sorted, From}
-use Rattle.plan.specs.declared.hops.Found.{Found}
+use Rattle.std.specs.Prelude.{Result, IsOk}
 use Rattle.plan.specs.declared.Plan.{Plan}
 use Rattle.within.specs.Own.{inner}
 use Rattle.plan.specs.Found.{FoundIn}
@@ -34,7 +34,7 @@ use Rattle.plan.proofs.Planning.{part_from}
 part_of_front : (f u n : ℕ) (xs : List ℕ) → f ≤ u → u ≤ n → take (u - f) (drop f (take n xs)) ≡ take (u - f) (drop f xs)
 part_of_front f u n xs l m = rw (drop_take f n xs) (take-take (u - f) (n - f) (drop f xs) (omega arith))
 
-module _ {k h : ℕ} {f : Found} {plan : Plan} {p : Pair} (w : MayWrite k h f plan p) where
+module _ {k h : ℕ} {f : Result ℕ ℕ} {plan : Plan} {p : Pair} (w : MayWrite k h f plan p) where
   abbrev keys : List ℕ
   keys = p.list.keys
 
@@ -72,6 +72,9 @@ module _ {k h : ℕ} {f : Found} {plan : Plan} {p : Pair} (w : MayWrite k h f pl
   part_hops : part (take p.list.count p.list.hops) ≡ part p.list.hops
   part_hops = part_of_front plan.from plan.upto count hops places.0 places.1
 
+  pub part_sorted : Sorted (part p.list.keys) (part p.list.hops)
+  part_sorted = rw (part_keys, part_hops) at (inner_sorted sorted k w.prefix w.planned.from_is w.planned.upto_is)
+
   inside_is : inner k (all_rows (take p.list.count p.list.keys) (take p.list.count p.list.hops))
       ≡ all_rows (part p.list.keys) (part p.list.hops)
   inside_is = inner_part sorted k w.prefix w.planned.from_is w.planned.upto_is ∙ rw (part_keys, part_hops)
@@ -104,14 +107,13 @@ module _ {k h : ℕ} {f : Found} {plan : Plan} {p : Pair} (w : MayWrite k h f pl
   -- what the writing of the row asks
   pub row_asks : (half_formed p.list.count p.list.keys p.list.hops ≡ true)
       × FoundIn (take p.list.count p.list.keys) k f
-      × (h ≡ 0 → f.listed ≡ true)
+      × (h ≡ 0 → IsOk f)
       × (length (edited_rows k h (list_of p)) ≤ list_room p.list.keys p.list.hops)
   row_asks = (half, w.found, w.may, rooms.0)
 
   module _ {net end : ℕ} (begins : net ≡ network k) (ends : end ≡ end_of k) where
     -- what the splicing asks
-    pub splice_asks : Sorted (part p.list.keys) (part p.list.hops)
-        × From (part p.list.keys) net
+    pub splice_asks : From (part p.list.keys) net
         × Splices (length (starts_inside (answer plan.base (all_rows (part p.list.keys) (part p.list.hops))) net end)) net end
         p.table.count plan.splice
         × (p.table.count ≤ length p.table.starts)
@@ -119,7 +121,6 @@ module _ {k h : ℕ} {f : Found} {plan : Plan} {p : Pair} (w : MayWrite k h f pl
         × (plan.splice.to + (p.table.count - plan.splice.past) ≤ length p.table.starts)
         × (plan.splice.to + (p.table.count - plan.splice.past) ≤ length p.table.hops)
     splice_asks = (
-      rw (part_keys, part_hops) at (inner_sorted sorted k w.prefix w.planned.from_is w.planned.upto_is),
       rw part_keys at (part_from sorted k w.prefix begins ends w.planned.from_is w.planned.upto_is),
       rw (begins, ends) (rw (inside_is, old_count) at w.planned.splices),
       old_runs.0,

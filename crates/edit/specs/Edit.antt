@@ -1,8 +1,8 @@
 -- Rule 10.1: an edit is handed a pair and names a prefix, by a network of 32 bits and a length. Announce has a hop as well.
 -- Rules 10.2 to 10.9: this is what the two edits check, return and leave.
 -- Assumes nothing.
-use Rattle.std.specs.Prelude.{Bool, not, ◌||◌, List, [], ◌∷◌, ◌++◌, ℕ, length, ltb, eqb}
-use Rattle.ground.specs.Numbers.{Check, check, outcome, done, ill_formed, no_room, not_its_runs, bad_edit, not_listed}
+use Rattle.std.specs.Prelude.{Bool, not, ◌||◌, List, [], ◌∷◌, ◌++◌, ℕ, length, ltb, eqb, Result, Ok, Err}
+use Rattle.ground.specs.Numbers.{number_of, Check, check, outcome, done, no_room, bad_edit, not_listed}
 use Rattle.ground.specs.Slots.{rewritten}
 use Rattle.cidr.specs.Prefix.{key_of, is_prefix}
 use Rattle.routes.specs.Row.{Row, list_room, keys_of, hops_of}
@@ -11,7 +11,7 @@ use Rattle.runs.specs.Table.{run_starts, run_hops}
 use Rattle.runs.specs.Build.{run_room}
 use Rattle.runs.specs.Pair.{Pair, list_of, pair_checks}
 use Rattle.edit.specs.declared.Edit.{Edit}
-use Rattle.edit.specs.declared.Edit.TheVariants.{Done, BadEdit, IllFormed, NotItsRuns, NotListed, NoRoom}
+use Rattle.ground.specs.declared.Refusal.{Refusal}
 
 -- Rule 10.2: an edit names no prefix if the length is above 32 or the network has a host bit that is 1.
 unfoldable pub bad_prefix : ℕ → ℕ → Bool
@@ -87,10 +87,6 @@ unfoldable pub withdraw : ℕ → ℕ → Pair → Edited
 withdraw net len p = outcome (withdraw_checks net len p) (edit_refused p) (edit_done (after_withdraw net len p) p)
 
 -- what the code's answer and the four slices at exit say
-abbrev pub edit_gave : Edit → List ℕ → List ℕ → List ℕ → List ℕ → Edited
-edit_gave (Done c n r) keys hops starts rhops = edit_outcome done c n r keys hops starts rhops
-edit_gave BadEdit keys hops starts rhops = edit_outcome bad_edit 0 0 0 keys hops starts rhops
-edit_gave IllFormed keys hops starts rhops = edit_outcome ill_formed 0 0 0 keys hops starts rhops
-edit_gave NotItsRuns keys hops starts rhops = edit_outcome not_its_runs 0 0 0 keys hops starts rhops
-edit_gave NotListed keys hops starts rhops = edit_outcome not_listed 0 0 0 keys hops starts rhops
-edit_gave NoRoom keys hops starts rhops = edit_outcome no_room 0 0 0 keys hops starts rhops
+abbrev pub edit_gave : Result Edit Refusal → List ℕ → List ℕ → List ℕ → List ℕ → Edited
+edit_gave (Ok e) keys hops starts rhops = edit_outcome done e.changed e.count e.runs keys hops starts rhops
+edit_gave (Err e) keys hops starts rhops = edit_outcome (number_of e) 0 0 0 keys hops starts rhops

@@ -7,17 +7,20 @@ ghost use Rattle.routes.specs.Row.{list_lent, list_room};
 ghost use Rattle.runs.specs.Table.{runs_lent};
 ghost use Rattle.runs.specs.Build.{run_room};
 ghost use Rattle.runs.specs.Pair.{pair, pair_check};
+ghost use Rattle.plan.specs.Found.{stands};
 ghost use Rattle.edit.specs.Edit.{edit_gave};
 ghost use Rattle.edit.specs.Inside.Local.{edit_agreed};
 ghost use Rattle.edit.specs.Inside.Writing.{MayWrite, Wrote};
 
 use crate::Edit;
-use plan::hops::{Found, find};
+use ground::Refusal;
 use plan::list::write_row;
 use plan::table::splice_runs;
 use plan::{Plan, plan_edit};
+use sweep::Rows;
 
 // Rule 10.5: whether so many rows exceed the list's room, or so many runs the run table's.
+#[tactic(auto, unfolding(routes::specs::Row::list_room, runs::specs::Build::run_room))]
 fn exceeds(
     rows: usize,
     keys: &[u64],
@@ -29,29 +32,16 @@ fn exceeds(
     ensures { result ≡ (ltb (list_room keys.now hops.now) rows
         || ltb (run_room starts.now rhops.now) runs) }
 {
-    if keys.len() < rows {
-        return true;
-    }
-    if hops.len() < rows {
-        return true;
-    }
-    if routes::TOP_ROWS < rows {
-        return true;
-    }
-    if starts.len() < runs {
-        return true;
-    }
-    if rhops.len() < runs {
-        return true;
-    }
-    runs::TOP_RUNS < runs
+    let list_room = keys.len().min(hops.len()).min(routes::TOP_ROWS);
+    let run_room = starts.len().min(rhops.len()).min(runs::TOP_RUNS);
+    list_room < rows || run_room < runs
 }
 
 // Rule 10.4: whether a withdrawal names a prefix that isn't listed; hop 0 stands for a withdrawal.
-fn nothing_to_withdraw(hop: u16, listed: bool) -> bool
-    ensures { result ≡ (eqb hop 0 && not listed) }
+fn nothing_to_withdraw(hop: u16, place: Result<usize, usize>) -> bool
+    ensures { result ≡ (eqb hop 0 && not (stands place)) }
 {
-    hop == 0 && !listed
+    hop == 0 && place.is_err()
 }
 
 // Rules 10.7 and 10.8: the run table after the edit and then the list, as planned. The runs come first, since the rows inside still stand
@@ -59,7 +49,7 @@ fn nothing_to_withdraw(hop: u16, listed: bool) -> bool
 fn write_edit(
     key: u64,
     hop: u16,
-    found: Found,
+    place: Result<usize, usize>,
     p: Plan,
     count: usize,
     keys: &mut [u64],
@@ -68,28 +58,20 @@ fn write_edit(
     starts: &mut [u32],
     rhops: &mut [u16],
 )
-    requires { MayWrite key hop found p
+    requires { MayWrite key hop place p
         (pair (list_lent count keys.old hops.old) (runs_lent runs starts.old rhops.old)) }
     ensures { Wrote key hop
         (pair (list_lent count keys.old hops.old) (runs_lent runs starts.old rhops.old))
         keys.new hops.new starts.new rhops.new }
 {
-    let from = p.from;
-    let upto = p.upto;
+    let inside = Rows {
+        keys: &keys[p.from..p.upto],
+        hops: &hops[p.from..p.upto],
+    };
     let net = cidr::network(key);
     let end = cidr::end_of(key);
-    splice_runs(
-        &keys[from..upto],
-        &hops[from..upto],
-        p.base,
-        net,
-        end,
-        p.splice,
-        runs,
-        starts,
-        rhops,
-    );
-    write_row(count, keys, hops, key, hop, found);
+    splice_runs(inside, p.base, net, end, p.splice, runs, starts, rhops);
+    write_row(count, keys, hops, key, hop, place);
 }
 
 // One edit of a pair that agrees: 16 for a withdrawal of what isn't listed, 13 for too little room, else the list and its run table
@@ -104,7 +86,7 @@ pub fn edit_agreed(
     runs: usize,
     starts: &mut [u32],
     rhops: &mut [u16],
-) -> Edit
+) -> Result<Edit, Refusal>
     requires { (is_prefix (key_of net len) ≡ true)
         × (len ≤ 32)
         × (pair_check (pair (list_lent count keys.old hops.old) (runs_lent runs starts.old rhops.old)) ≡ done) }
@@ -113,27 +95,22 @@ pub fn edit_agreed(
         (pair (list_lent count keys.old hops.old) (runs_lent runs starts.old rhops.old)) }
 {
     let key = net * 64 + len;
-    let found = find(&keys[..count], key);
-    if nothing_to_withdraw(hop, found.listed) {
-        return Edit::NotListed;
+    let rows = Rows {
+        keys: &keys[..count],
+        hops: &hops[..count],
+    };
+    let place = routes::place_of(rows.keys, key);
+    if nothing_to_withdraw(hop, place) {
+        return Err(Refusal::NotListed);
     }
-    let p = plan_edit(
-        &keys[..count],
-        &hops[..count],
-        &starts[..runs],
-        &rhops[..runs],
-        net,
-        len,
-        hop,
-        found,
-    );
+    let p = plan_edit(rows, &starts[..runs], &rhops[..runs], net, len, hop, place);
     if exceeds(p.rows, keys, hops, p.runs, starts, rhops) {
-        return Edit::NoRoom;
+        return Err(Refusal::NoRoom);
     }
-    write_edit(key, hop, found, p, count, keys, hops, runs, starts, rhops);
-    Edit::Done {
+    write_edit(key, hop, place, p, count, keys, hops, runs, starts, rhops);
+    Ok(Edit {
         changed: p.changed,
         count: p.rows,
         runs: p.runs,
-    }
+    })
 }

@@ -13,21 +13,14 @@ ghost use Rattle.edit.specs.Edit.{bad_prefix, edit_gave, announce, withdraw};
 ghost use Rattle.edit.specs.Inside.Local.{edit_pair};
 
 use agreed::edit_agreed;
-use runs::Paired;
+use ground::Refusal;
 
-// What an edit gives: the changed number and the new counts, or 15, 11, 14, 16 or 13.
-#[derive(Clone, Copy)]
-pub enum Edit {
-    Done {
-        changed: u64,
-        count: usize,
-        runs: usize,
-    },
-    BadEdit,
-    IllFormed,
-    NotItsRuns,
-    NotListed,
-    NoRoom,
+// What an edit did: the changed number and the new counts.
+#[derive(Clone, Copy, Debug, PartialEq, Eq)]
+pub struct Edit {
+    pub changed: u64,
+    pub count: usize,
+    pub runs: usize,
 }
 
 // Rule 10.2: whether an edit names no prefix. The length is looked at first, since 64 and more would go into the key's network.
@@ -52,17 +45,14 @@ fn edit_pair(
     runs: usize,
     starts: &mut [u32],
     rhops: &mut [u16],
-) -> Edit
+) -> Result<Edit, Refusal>
     requires { (is_prefix (key_of net len) ≡ true) × (len ≤ 32) }
     ensures { edit_gave result keys.new hops.new starts.new rhops.new
         ≡ edit_pair (key_of net len) hop
         (pair (list_lent count keys.old hops.old) (runs_lent runs starts.old rhops.old)) }
 {
-    match runs::pair_check(count, keys, hops, runs, starts, rhops) {
-        Paired::IllFormed => Edit::IllFormed,
-        Paired::NotItsRuns => Edit::NotItsRuns,
-        Paired::Agreed => edit_agreed(net, len, hop, count, keys, hops, runs, starts, rhops),
-    }
+    runs::pair_check(count, keys, hops, runs, starts, rhops)?;
+    edit_agreed(net, len, hop, count, keys, hops, runs, starts, rhops)
 }
 
 // Rule 10.1: a prefix gets a row with the hop, or its row the hop, and the run table follows; 15 for what is no prefix or hop 0, 11 and 14
@@ -77,16 +67,16 @@ pub fn announce(
     runs: usize,
     starts: &mut [u32],
     rhops: &mut [u16],
-) -> Edit
+) -> Result<Edit, Refusal>
     ensures { edit_gave result keys.new hops.new starts.new rhops.new
         ≡ announce net len hop
         (pair (list_lent count keys.old hops.old) (runs_lent runs starts.old rhops.old)) }
 {
     if bad_prefix(net as u64, len as u64) {
-        return Edit::BadEdit;
+        return Err(Refusal::BadEdit);
     }
     if hop == 0 {
-        return Edit::BadEdit;
+        return Err(Refusal::BadEdit);
     }
     edit_pair(
         net as u64, len as u64, hop, count, keys, hops, runs, starts, rhops,
@@ -104,13 +94,13 @@ pub fn withdraw(
     runs: usize,
     starts: &mut [u32],
     rhops: &mut [u16],
-) -> Edit
+) -> Result<Edit, Refusal>
     ensures { edit_gave result keys.new hops.new starts.new rhops.new
         ≡ withdraw net len
         (pair (list_lent count keys.old hops.old) (runs_lent runs starts.old rhops.old)) }
 {
     if bad_prefix(net as u64, len as u64) {
-        return Edit::BadEdit;
+        return Err(Refusal::BadEdit);
     }
     edit_pair(
         net as u64, len as u64, 0, count, keys, hops, runs, starts, rhops,

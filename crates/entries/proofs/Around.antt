@@ -17,7 +17,7 @@ use Rattle.cidr.specs.Prefix.{length_of, holds, covers}
 use Rattle.routes.specs.Row.{Row, keys_of, hops_of, those, keep_row}
 use Rattle.routes.specs.Plain.{longer, longest, hop_of}
 use Rattle.routes.specs.WellFormed.{well_formed}
-use Rattle.routes.specs.declared.Place.TheVariants.{At, Missing}
+use Rattle.std.specs.Prelude.{Ok, Err}
 use Rattle.routes.specs.Place.{place_in}
 use Rattle.entries.specs.Clue.{clue_of, around, hop_around}
 use Rattle.entries.proofs.Decided.{decided, never_both, and_left, and_right, and_both}
@@ -191,7 +191,7 @@ module _ (rows : List Row) (a : ℕ) where
       ∙ none_passes rows
 
 -- the same of two slices that are a well-formed list, by the place of a key among the first
-pub place_within : (keys hops : List ℕ) → well_formed (length keys) keys hops ≡ true → (key i : ℕ) → place_in keys key ≡ At i
+pub place_within : (keys hops : List ℕ) → well_formed (length keys) keys hops ≡ true → (key i : ℕ) → place_in keys key ≡ Ok i
     → i < length hops
 place_within keys hops w key i e =
     let p = at_in keys key i e in
@@ -206,7 +206,7 @@ module _ (keys hops : List ℕ) (w : well_formed (length keys) keys hops ≡ tru
   keys_in : is_in key keys ≡ is_in (clue_of (left - 1) a) (keys_of (all_rows keys hops))
   keys_in = rw (is, keys_are keys hops w)
 
-  pub place_hop : (i : ℕ) → place_in keys key ≡ At i → get_or hops i 0 ≡ hop_around (all_rows keys hops) (clue_of len a)
+  pub place_hop : (i : ℕ) → place_in keys key ≡ Ok i → get_or hops i 0 ≡ hop_around (all_rows keys hops) (clue_of len a)
   place_hop i e =
       let p = at_in keys key i e in
       let there : lower key keys < length keys = (at_place key keys (keys_ascend keys hops w) p.0).0 in
@@ -216,7 +216,7 @@ module _ (keys hops : List ℕ) (w : well_formed (length keys) keys hops ≡ tru
       (sym (hop_at_lem keys hops w (lower key keys) there) ∙ sym (has-say ∙ sym (ap (hop_shorter (all_rows keys hops) a) one) ∙ found
       ∙ rw (keys_are keys hops w, is)))
 
-  pub place_missing : (i : ℕ) → place_in keys key ≡ Missing i
+  pub place_missing : (i : ℕ) → place_in keys key ≡ Err i
       → hop_around (all_rows keys hops) (clue_of len a) ≡ hop_shorter (all_rows keys hops) a (left - 1)
   place_missing i e =
       has-say ∙ sym (ap (hop_shorter (all_rows keys hops) a) one)

@@ -16,7 +16,7 @@ use Rattle.ground.specs.Slots.{same}
 use Rattle.ground.specs.Column.{below, ascends}
 use Rattle.cidr.specs.Prefix.{is_prefix}
 use Rattle.routes.specs.Row.{Row}
-use Rattle.routes.specs.declared.Place.TheVariants.{At}
+use Rattle.std.specs.Prelude.{Ok}
 use Rattle.routes.specs.Place.{place_in}
 use Rattle.entries.specs.Clue.{hop_around, extended}
 use Rattle.entries.specs.Entries.{mark, entry_hops, entry_marks, entries_lent, all_keys, its_entries}
@@ -99,7 +99,7 @@ module _ (rows : List Row) (keys hops marks : List ℕ) (e : its_entries rows (e
   its_marks_count = same_length marks (entry_marks rows keys) same_marks ∙ length-map keys (λ k. mark (extended rows k))
 
   -- a key that is among them has its hop and its mark at its place
-  pub its_place : (k i : ℕ) → place_in keys k ≡ At i → (i < length hops) × (i < length marks)
+  pub its_place : (k i : ℕ) → place_in keys k ≡ Ok i → (i < length hops) × (i < length marks)
   its_place k i p =
       let at = at_in keys k i p in
       let there = (at_place k keys its_ascend at.0).0 in

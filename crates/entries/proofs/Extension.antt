@@ -6,6 +6,7 @@ use mathlib.Core.Logic.{⊎_elim}
 use mathlib.Core.Bool.{Bool, true, false, ◌&&◌, ◌||◌}
 use mathlib.Core.List.{List, [], ◌∷◌}
 use Prim.Native.Nat.{ℕ, suc, ◌+◌, ◌-◌, ◌≤◌, ◌<◌}
+use native.Mathlib.Numerals.{add-one}
 use native.Mathlib.Nat.{le_of_lt, zero-add, mod-add-mod, mod-eq_of_lt}
 use native.Mathlib.Omega.{arith}
 use lib.ListN.{length, get_or}
@@ -15,17 +16,13 @@ use Rattle.ground.specs.Column.{ascends, lower}
 use Rattle.cidr.specs.Prefix.{network, length_of, size, end_of, host_bits, is_prefix, holds, covers}
 use Rattle.routes.specs.Row.{Row, keys_of, every}
 use Rattle.routes.specs.WellFormed.{prefixes, well_formed}
-use Rattle.routes.specs.declared.Place.TheVariants.{At, Missing}
-use Rattle.routes.specs.Place.{place_in}
 use Rattle.entries.specs.Clue.{extends, any, extended}
-use Rattle.entries.specs.Entries.{mark}
 use Rattle.entries.proofs.Decided.{decided, and_left, and_right, and_both}
 use Rattle.entries.proofs.Truth.{same_test}
 use Rattle.entries.proofs.HostBits.{host_bits_lt, host_bits_le, host_bits_fall}
 use Rattle.entries.proofs.Clue.{Prefix, prefix_parts}
-use Rattle.entries.proofs.Keys.{ascends_rest, ascends_next, lower_nil, lower_past, lower_none, at_place, behind_at, behind_missing}
-use Rattle.entries.proofs.Places.{at_in, missing_out}
-use Rattle.entries.proofs.Rows.{all_rows, well_prefixes, well_ascends, keys_are, keys_ascend}
+use Rattle.entries.proofs.Keys.{ascends_rest, ascends_next, lower_nil, lower_past, lower_none}
+use Rattle.entries.proofs.Rows.{all_rows, well_prefixes, well_ascends, keys_are}
 
 -- a key is behind a clue, and its network is before an end
 abbrev inside : ℕ → ℕ → ℕ → Bool
@@ -132,26 +129,14 @@ module _ (keys hops : List ℕ) (w : well_formed (length keys) keys hops ≡ tru
       ∙ first_inside_lem k (end_of k) (all_rows keys hops) (well_ascends (length keys) keys hops w)
       ∙ ap (first_inside k (end_of k)) (keys_are keys hops w)
 
-  module _ (next : ℕ) (is : next ≡ lower (suc k) keys) where
-    pub none_behind : length keys ≤ next → 0 ≡ mark (extended (all_rows keys hops) k)
-    unfolding first_inside mark
+  module _ (next : ℕ) (at : next ≡ lower (k + 1) keys) where
+    is : next ≡ lower (suc k) keys
+    is = at ∙ ap (λ n. lower n keys) (add-one k)
+
+    pub none_behind : length keys ≤ next → false ≡ extended (all_rows keys hops) k
+    unfolding first_inside
     none_behind l = rw (first_tells, ← is, le-ltb next (length keys) l)
 
-    module _ (l : next < length keys) where
-      pub first_extends : network (get_or keys next 0) < end_of k → 1 ≡ mark (extended (all_rows keys hops) k)
-      unfolding first_inside mark
-      first_extends b = rw (first_tells, ← is, lt-ltb next (length keys) l, lt-ltb (network (get_or keys next 0)) (end_of k) b)
-
-      pub first_beyond : end_of k ≤ network (get_or keys next 0) → 0 ≡ mark (extended (all_rows keys hops) k)
-      unfolding first_inside mark
-      first_beyond b = rw (first_tells, ← is, lt-ltb next (length keys) l, le-ltb (network (get_or keys next 0)) (end_of k) b)
-
-  -- the place right behind the key's own, or its place where it isn't listed
-  pub next_at : (i : ℕ) → place_in keys k ≡ At i → (i < length keys) × (i + 1 ≡ lower (suc k) keys)
-  next_at i e =
-      let at = at_in keys k i e in
-      let a = keys_ascend keys hops w in
-      (omega (arith, (at_place k keys a at.0).0, at.1), ap (λ n. n + 1) at.1 ∙ behind_at k keys a at.0)
-
-  pub next_missing : (i : ℕ) → place_in keys k ≡ Missing i → i ≡ lower (suc k) keys
-  next_missing i e = let out = missing_out keys k i e in out.1 ∙ behind_missing k keys (keys_ascend keys hops w) out.0
+    pub first_decides_it : next < length keys → ltb (network (get_or keys next 0)) (end_of k) ≡ extended (all_rows keys hops) k
+    unfolding first_inside
+    first_decides_it l = rw (first_tells, ← is, lt-ltb next (length keys) l)

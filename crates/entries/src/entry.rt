@@ -7,8 +7,6 @@ ghost use Rattle.routes.specs.WellFormed.{well_formed};
 ghost use Rattle.entries.specs.Clue.{clue_of, hop_around, extended};
 ghost use Rattle.entries.specs.Entries.{mark};
 
-use routes::Place;
-
 // Rule 19.1: the key of a clue.
 pub fn clue_key(len: u64, a: u64) -> u64
     requires { (len ≤ 32) × (a < addresses) }
@@ -25,34 +23,30 @@ pub fn hop_around(keys: &[u64], hops: &[u16], a: u64, len: u64) -> u16
     requires clue_in_range { (len ≤ 32) × (a < addresses) }
     ensures { result ≡ hop_around (rows_of (length keys.now) keys.now hops.now) (clue_of len a) }
 {
-    let mut left = len + 1;
-    while 0 < left {
-        left -= 1;
-        if let Place::At(at) = routes::place_of(keys, clue_key(left, a)) {
+    for shorter in (0..len + 1).rev() {
+        if let Ok(at) = routes::place_of(keys, clue_key(shorter, a)) {
             return hops[at];
         }
     }
     0
 }
 
-// Rule 19.2: 1 if a longer listed prefix extends the clue, else 0. In key order such prefixes stand right behind the clue's place.
-pub fn extension(keys: &[u64], hops: &[u16], key: u64) -> u8
+// Rule 19.2: whether a longer listed prefix extends the clue. In key order such prefixes stand right behind the clue's place.
+pub fn extended(keys: &[u64], hops: &[u16], key: u64) -> bool
     requires well_formed_list { well_formed (length keys.now) keys.now hops.now ≡ true }
     requires key_is_prefix { is_prefix key ≡ true }
-    ensures { result ≡ mark (extended (rows_of (length keys.now) keys.now hops.now) key) }
+    ensures { result ≡ extended (rows_of (length keys.now) keys.now hops.now) key }
 {
-    let next = match routes::place_of(keys, key) {
-        Place::At(at) => at + 1,
-        Place::Missing(at) => at,
-    };
-    if keys.len() <= next {
-        return 0;
-    }
-    if cidr::network(keys[next]) < cidr::end_of(key) {
-        1
-    } else {
-        0
-    }
+    let next = halving::lower(keys, key + 1);
+    next < keys.len() && cidr::network(keys[next]) < cidr::end_of(key)
+}
+
+// Rule 19.2: the mark of a clue, by whether it is extended.
+#[tactic(auto, unfolding(crate::specs::Entries::mark))]
+pub fn mark(extended: bool) -> u8
+    ensures { result ≡ mark extended }
+{
+    u8::from(extended)
 }
 
 // Rule 19.5: whether an entry is the list's for its clue.
@@ -65,8 +59,6 @@ pub fn entry_ok(keys: &[u64], hops: &[u16], key: u64, hop: u16, marked: u8) -> b
     if !cidr::is_prefix(key) {
         return false;
     }
-    if hop != hop_around(keys, hops, cidr::network(key), key % 64) {
-        return false;
-    }
-    marked == extension(keys, hops, key)
+    let around = hop_around(keys, hops, cidr::network(key), key % 64);
+    hop == around && marked == mark(extended(keys, hops, key))
 }

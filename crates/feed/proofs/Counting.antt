@@ -12,11 +12,12 @@ use lib.Dec.{eqb}
 use lib.ListN.{length, get_or, set, length-append}
 use lib.Seq.{get_or-set_same, get_or-set_other}
 use borrow.Author.Tests.{eqb-true, eqb-false, eq-eqb, ne_eqb}
+use Rattle.std.proofs.lemmas.List.FromFn.{fill_by_all}
 use Rattle.ground.specs.Stretch.{stretch}
 use Rattle.ground.proofs.Truth.{decided, and_left, and_right}
-use Rattle.rows.specs.RowNumber.{NamedRow, row_names}
+use Rattle.rows.specs.RowNumber.{NamedRow, row_taken, row_names}
 use Rattle.feed.specs.declared.Counts.{Counts}
-use Rattle.feed.specs.Counts.{count_if, how_many, counts_of, rows_with, rows_named}
+use Rattle.feed.specs.Counts.{count_if, how_many, counts_of, no_counts, rows_with, rows_named}
 use Rattle.feed.specs.Inside.Counting.{CountsFit, counted_in}
 
 -- all numbers of a list are in the table of names
@@ -68,6 +69,11 @@ module _ (ns : List ℕ) (n : ℕ) (h : n < length row_names) where
         one_more (λ j. how_many j ns) (λ j. how_many j (ns ++ n ∷ [])) 0 (length row_names) n n (omega arith) h (λ j. how_many_more j ns n),
       )
 
+pub taken_more : (ns : List ℕ) (n : ℕ)
+    → rows_with row_taken (counts_of (ns ++ n ∷ [])) ≡ count_if (eqb row_taken n) (rows_with row_taken (counts_of ns))
+unfolding counts_of stretch
+taken_more ns n = how_many_more row_taken ns n
+
 how_many_le : (k : ℕ) (ns : List ℕ) → how_many k ns ≤ length ns
 unfolding how_many
 how_many_le k [] = omega arith
@@ -93,6 +99,13 @@ counts_fit ns n few h = record {
   in_rows = unfold counts_of in at_most (λ k. how_many k ns) (length ns) (λ k. how_many_le k ns) (stretch 0 (length row_names));
   listed = h;
 }
+
+-- counts of 0 are those of no rows
+pub none_counted : (c : Counts) → c.rows ≡ 0 → length c.of ≡ length row_names → ((k : ℕ) → k < length row_names → get_or c.of k 0 ≡ 0)
+    → c ≡ no_counts
+none_counted c r l e =
+    let counts : ℕ → List ℕ → Counts = λ n xs. record { rows = n; of = xs } in
+    ap (λ n. counts n c.of) r ∙ ap (counts 0) (fill_by_all (λ k. 0) c.of (length row_names) 0 l e)
 
 -- a test that every number below k passes
 abbrev all_below : (ℕ → Bool) → ℕ → Bool

@@ -1,10 +1,10 @@
 pub mod Counting
+mod RowCount
 mod OneRow
 pub mod Importing
 pub mod LastRow
 mod Taking
 mod Filling
-mod Tallying
 pub mod Outcome
 pub mod Settled
 pub mod PulledNumbers

@@ -67,3 +67,11 @@ module _ (feed : List ℕ) (l : ImportLent) where
           → length l.report < length (rows_in feed)
       go (inl t) = ltb-true _ _ t
       go (inr t) = absurd (omega (arith, ap (λ o. o.number) (import_long (ltb-false _ _ t))))
+
+  pub not_done_is_refused : ((import feed l).number ≡ done → ⊥) → import feed l ≡ import_refused l report_short
+  not_done_is_refused fault = go (decided (ltb (length l.report) (length (rows_in feed))))
+    where
+      go : (ltb (length l.report) (length (rows_in feed)) ≡ true) ⊎ (ltb (length l.report) (length (rows_in feed)) ≡ false)
+          → import feed l ≡ import_refused l report_short
+      go (inl t) = import_short (ltb-true _ _ t)
+      go (inr t) = absurd (fault (ap (λ o. o.number) (import_long (ltb-false _ _ t))))

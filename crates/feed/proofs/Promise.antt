@@ -13,6 +13,9 @@ use lib.Dec.{leb}
 use lib.ListN.{length, take, drop, length-map}
 use lib.Seq.{take_at, drop_at}
 use borrow.Author.Tests.{le-leb}
+use Rattle.std.specs.Prelude.{Result, Ok, Err}
+use Rattle.ground.specs.declared.Refusal.{Refusal}
+use Rattle.ground.specs.declared.Refusal.TheVariants.{ReportShort}
 use Rattle.ground.specs.Numbers.{report_short}
 use Rattle.ground.specs.Slots.{written}
 use Rattle.ground.proofs.Truth.{and_both}
@@ -25,8 +28,6 @@ use Rattle.rows.specs.Rows.{rows_in}
 use Rattle.rows.specs.RowNumber.{row_taken, row_shape, row_zeros, row_range, row_host_bits, row_replaced, row_no_room}
 use Rattle.rows.specs.RowNumber.{refusals}
 use Rattle.feed.specs.declared.Counts.{Counts}
-use Rattle.feed.specs.declared.Imported.{Imported}
-use Rattle.feed.specs.declared.ImportEnd.TheVariants.{Done, ReportShort}
 use Rattle.feed.specs.Counts.{counts_of, no_counts, rows_with, rows_named}
 use Rattle.feed.specs.Import.{row_numbers, imported_list, ImportLent, import_refused, import_accepted, import, end_number, import_gave}
 use Rattle.feed.specs.LastRow.{last_hop, hop_listed}
@@ -42,19 +43,19 @@ unfolding written
 past new old n e = drop_at new _ n (sym e) ∙ ap (λ k. drop k old) (sym e)
 
 -- an import that was done
-module _ (feed : List ℕ) (l : ImportLent) {r : Imported} {keys hops report : List ℕ}
-    (g : import_gave r keys hops report ≡ import feed l) (ended : r.end ≡ Done) where
+module _ (feed : List ℕ) (l : ImportLent) {r : Result Counts Refusal} {c : Counts} {keys hops report : List ℕ}
+    (g : import_gave r keys hops report ≡ import feed l) (ended : r ≡ Ok c) where
   abbrev room : ℕ
   room = list_room l.keys l.hops
-
-  abbrev c : Counts
-  c = r.counts
 
   abbrev taken : ℕ
   taken = rows_with row_taken c
 
-  accepted : import_gave r keys hops report ≡ import_accepted room feed l
-  accepted = g ∙ done_is_accepted feed l (sym (ap (λ o. o.number) g) ∙ ap end_number ended)
+  gave : import_gave (Ok c) keys hops report ≡ import feed l
+  gave = rw ended at g
+
+  accepted : import_gave (Ok c) keys hops report ≡ import_accepted room feed l
+  accepted = gave ∙ done_is_accepted feed l (sym (ap (λ o. o.number) gave))
 
   counts_are : c ≡ counts_of (row_numbers room feed)
   counts_are = ap (λ o. o.counts) accepted
@@ -147,8 +148,8 @@ module _ (feed : List ℕ) (l : ImportLent) {r : Imported} {keys hops report : L
   hops_past_taken = rw hops_are (past (hops_of (imported_list room feed)) l.hops taken (simp length-map taken_are))
 
 -- an import that was refused
-module _ (feed : List ℕ) (l : ImportLent) {r : Imported} {keys hops report : List ℕ}
-    (g : import_gave r keys hops report ≡ import feed l) (ended : r.end ≡ ReportShort) where
+module _ (feed : List ℕ) (l : ImportLent) {r : Result Counts Refusal} {keys hops report : List ℕ}
+    (g : import_gave r keys hops report ≡ import feed l) (ended : r ≡ Err ReportShort) where
   -- 12 is given only where the report is shorter than the number of rows
   pub report_is_short : length l.report < length (rows_in feed)
   report_is_short = refused_is_short feed l (sym (ap (λ o. o.number) g) ∙ ap end_number ended)
@@ -157,7 +158,7 @@ module _ (feed : List ℕ) (l : ImportLent) {r : Imported} {keys hops report : L
   refused = g ∙ import_short feed l report_is_short
 
   -- every count is 0
-  pub counts_are_none : r.counts ≡ no_counts
+  pub counts_are_none : (import_gave r keys hops report).counts ≡ no_counts
   counts_are_none = ap (λ o. o.counts) refused
 
   -- all lent memory is as at entry

@@ -1,3 +1,4 @@
+pub mod RowNumber
 pub mod Counts
 pub mod Import
 pub mod LastRow

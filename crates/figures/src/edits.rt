@@ -1,9 +1,10 @@
 // The figures of edits: rules 14.7, 14.8 and 14.11, the slips of 15.1 to 15.3, and refusals.
 ghost use Rattle.std.specs.Prelude.{◌≤◌};
 
-use crate::{Column, UNWRITTEN, show};
+use crate::{LIST_A, UNWRITTEN, numbers, prefixes};
 use edit::Edit;
-use runs::Built;
+use feed::{Counts, RowNumber};
+use ground::Refusal;
 use std::io;
 
 // What is done with a prefix.
@@ -14,47 +15,25 @@ enum Change {
 }
 
 // An edit's number, the changed number, the new counts, and every slot that it was lent.
-fn left(
-    rt: &impl Print,
-    number: u64,
-    changed: u64,
-    count: usize,
-    n: usize,
-    keys: &[u64],
-    hops: &[u16],
-    starts: &[u32],
-    rhops: &[u16],
-) -> io::Result<()> {
-    print::line(rt, b"number", number)?;
-    print::line(rt, b"changed", changed)?;
-    print::line(rt, b"rows", count as u64)?;
-    print::line(rt, b"runs", n as u64)?;
-    show(rt, b"keys", Column::Keys, keys.len(), b"", keys, hops)?;
-    show(rt, b"hops", Column::Hops, hops.len(), b"", keys, hops)?;
-    print::runs(rt, starts.len(), starts, rhops)
-}
-
-// What an edit gave and left.
 fn told(
     rt: &impl Print,
-    e: Edit,
+    r: Result<Edit, Refusal>,
     keys: &[u64],
     hops: &[u16],
     starts: &[u32],
     rhops: &[u16],
 ) -> io::Result<()> {
-    match e {
-        Edit::Done {
-            changed,
-            count,
-            runs,
-        } => left(rt, 0, changed, count, runs, keys, hops, starts, rhops),
-        Edit::BadEdit => left(rt, 15, 0, 0, 0, keys, hops, starts, rhops),
-        Edit::IllFormed => left(rt, 11, 0, 0, 0, keys, hops, starts, rhops),
-        Edit::NotItsRuns => left(rt, 14, 0, 0, 0, keys, hops, starts, rhops),
-        Edit::NotListed => left(rt, 16, 0, 0, 0, keys, hops, starts, rhops),
-        Edit::NoRoom => left(rt, 13, 0, 0, 0, keys, hops, starts, rhops),
-    }
+    let (number, changed, rows, runs) = match r {
+        Ok(e) => (0, e.changed, e.count, e.runs),
+        Err(e) => (u32::from(e), 0, 0, 0),
+    };
+    println!(rt; "number {number}")?;
+    println!(rt; "changed {changed}")?;
+    println!(rt; "rows {rows}")?;
+    println!(rt; "runs {runs}")?;
+    prefixes(rt, "keys", keys)?;
+    numbers(rt, "hops", hops)?;
+    print::runs(rt, starts.len(), starts, rhops)
 }
 
 // One edit of a list and its run table.
@@ -95,20 +74,18 @@ fn of_list(
     rhops: &mut [u16],
 ) -> io::Result<()> {
     let mut report = [0u8; 16];
-    let i = feed::import(feed, keys, hops, &mut report);
-    let c = i.counts;
-    let count = c.of[feed::TAKEN as usize];
+    let c = feed::import(feed, keys, hops, &mut report).unwrap_or(Counts::default());
+    let count = c.of[RowNumber::Taken as usize];
     match runs::build(count, keys, hops, starts, rhops) {
-        Built::Runs(n) => edited(rt, net, len, change, count, keys, hops, n, starts, rhops),
-        Built::IllFormed => print::text(rt, b"run table refused\n"),
-        Built::NoRoom => print::text(rt, b"run table refused\n"),
+        Ok(n) => edited(rt, net, len, change, count, keys, hops, n, starts, rhops),
+        Err(_) => println!(rt; "run table refused"),
     }
 }
 
 // The same in `k` slots for rows and `r` for runs that hold what nothing has written.
 fn of_feed(
     rt: &impl Print,
-    name: &[u8],
+    name: &str,
     feed: &[u8],
     net: u32,
     len: u32,
@@ -118,9 +95,7 @@ fn of_feed(
 ) -> io::Result<()>
     requires { (k ≤ 16) × (r ≤ 16) }
 {
-    print::text(rt, b"# Edit: ")?;
-    print::text(rt, name)?;
-    print::text(rt, b"\n")?;
+    println!(rt; "# Edit: {name}")?;
     let mut keys = [UNWRITTEN; 16];
     let mut hops = [9u16; 16];
     let mut starts = [151587081u32; 16];
@@ -141,7 +116,7 @@ fn of_feed(
 // One edit of list A.
 fn of_a(
     rt: &impl Print,
-    name: &[u8],
+    name: &str,
     net: u32,
     len: u32,
     change: Change,
@@ -150,23 +125,14 @@ fn of_a(
 ) -> io::Result<()>
     requires { (k ≤ 16) × (r ≤ 16) }
 {
-    of_feed(
-        rt,
-        name,
-        b"200.24.0.0/14 1\n200.26.0.0/15 2\n200.27.0.0/16 3\n200.27.64.0/18 1\n200.27.112.0/20 2\n200.27.128.0/20 1\n200.27.240.0/20 2\n",
-        net,
-        len,
-        change,
-        k,
-        r,
-    )
+    of_feed(rt, name, LIST_A, net, len, change, k, r)
 }
 
 // Rules 14.7, 14.8, 14.11 and 10.11.
 fn figures(rt: &impl Print) -> io::Result<()> {
     of_a(
         rt,
-        b"200.27.64.0/18 withdrawn from A",
+        "200.27.64.0/18 withdrawn from A",
         3357229056,
         18,
         Change::Withdraw,
@@ -175,7 +141,7 @@ fn figures(rt: &impl Print) -> io::Result<()> {
     )?;
     of_a(
         rt,
-        b"200.27.224.0/19 hop 1 announced to A",
+        "200.27.224.0/19 hop 1 announced to A",
         3357270016,
         19,
         Change::Announce(1),
@@ -184,7 +150,7 @@ fn figures(rt: &impl Print) -> io::Result<()> {
     )?;
     of_a(
         rt,
-        b"200.27.224.0/19 hop 3 announced to A",
+        "200.27.224.0/19 hop 3 announced to A",
         3357270016,
         19,
         Change::Announce(3),
@@ -193,7 +159,7 @@ fn figures(rt: &impl Print) -> io::Result<()> {
     )?;
     of_a(
         rt,
-        b"200.27.64.0/18 announced to A with its own hop, in full slices",
+        "200.27.64.0/18 announced to A with its own hop, in full slices",
         3357229056,
         18,
         Change::Announce(1),
@@ -202,7 +168,7 @@ fn figures(rt: &impl Print) -> io::Result<()> {
     )?;
     of_feed(
         rt,
-        b"0.0.0.0/0 hop 4 announced to the empty list",
+        "0.0.0.0/0 hop 4 announced to the empty list",
         b"",
         0,
         0,
@@ -212,7 +178,7 @@ fn figures(rt: &impl Print) -> io::Result<()> {
     )?;
     of_feed(
         rt,
-        b"0.0.0.0/0 withdrawn again",
+        "0.0.0.0/0 withdrawn again",
         b"0.0.0.0/0 4\n",
         0,
         0,
@@ -226,7 +192,7 @@ fn figures(rt: &impl Print) -> io::Result<()> {
 fn slips(rt: &impl Print) -> io::Result<()> {
     of_feed(
         rt,
-        b"a withdrawal that needs two more runs",
+        "a withdrawal that needs two more runs",
         b"10.0.0.0/8 1\n10.0.0.0/10 2\n10.64.0.0/10 2\n10.128.0.0/10 2\n",
         171966464,
         10,
@@ -236,7 +202,7 @@ fn slips(rt: &impl Print) -> io::Result<()> {
     )?;
     of_feed(
         rt,
-        b"the same in one run less",
+        "the same in one run less",
         b"10.0.0.0/8 1\n10.0.0.0/10 2\n10.64.0.0/10 2\n10.128.0.0/10 2\n",
         171966464,
         10,
@@ -246,7 +212,7 @@ fn slips(rt: &impl Print) -> io::Result<()> {
     )?;
     of_feed(
         rt,
-        b"255.0.0.0/8 hop 5 announced under 0.0.0.0/0 hop 4",
+        "255.0.0.0/8 hop 5 announced under 0.0.0.0/0 hop 4",
         b"0.0.0.0/0 4\n",
         4278190080,
         8,
@@ -256,7 +222,7 @@ fn slips(rt: &impl Print) -> io::Result<()> {
     )?;
     of_feed(
         rt,
-        b"128.0.0.0/1 withdrawn from around 255.255.255.255/32",
+        "128.0.0.0/1 withdrawn from around 255.255.255.255/32",
         b"128.0.0.0/1 5\n255.255.255.255/32 6\n",
         2147483648,
         1,
@@ -266,7 +232,7 @@ fn slips(rt: &impl Print) -> io::Result<()> {
     )?;
     of_feed(
         rt,
-        b"10.0.0.0/8 hop 1 announced around 10.64.0.0/10 hop 2",
+        "10.0.0.0/8 hop 1 announced around 10.64.0.0/10 hop 2",
         b"10.64.0.0/10 2\n",
         167772160,
         8,
@@ -280,7 +246,7 @@ fn slips(rt: &impl Print) -> io::Result<()> {
 fn refusals(rt: &impl Print) -> io::Result<()> {
     of_a(
         rt,
-        b"200.27.224.0/19 hop 1 announced to A in one row less",
+        "200.27.224.0/19 hop 1 announced to A in one row less",
         3357270016,
         19,
         Change::Announce(1),
@@ -289,7 +255,7 @@ fn refusals(rt: &impl Print) -> io::Result<()> {
     )?;
     of_a(
         rt,
-        b"200.27.224.0/19 hop 1 announced to A in one run less",
+        "200.27.224.0/19 hop 1 announced to A in one run less",
         3357270016,
         19,
         Change::Announce(1),
@@ -298,7 +264,7 @@ fn refusals(rt: &impl Print) -> io::Result<()> {
     )?;
     of_a(
         rt,
-        b"200.27.224.0/19 withdrawn from A",
+        "200.27.224.0/19 withdrawn from A",
         3357270016,
         19,
         Change::Withdraw,
@@ -307,7 +273,7 @@ fn refusals(rt: &impl Print) -> io::Result<()> {
     )?;
     of_a(
         rt,
-        b"200.27.224.0/18 withdrawn from A: a host bit",
+        "200.27.224.0/18 withdrawn from A: a host bit",
         3357270016,
         18,
         Change::Withdraw,
@@ -316,7 +282,7 @@ fn refusals(rt: &impl Print) -> io::Result<()> {
     )?;
     of_feed(
         rt,
-        b"10.0.0.0/72 withdrawn: a length above 32",
+        "10.0.0.0/72 withdrawn: a length above 32",
         b"10.0.0.0/8 7\n",
         167772160,
         72,
@@ -326,7 +292,7 @@ fn refusals(rt: &impl Print) -> io::Result<()> {
     )?;
     of_feed(
         rt,
-        b"10.0.0.0/8 announced with hop 0",
+        "10.0.0.0/8 announced with hop 0",
         b"10.0.0.0/8 7\n",
         167772160,
         8,

@@ -6,33 +6,42 @@ mod edits;
 
 ghost use Rattle.std.specs.Prelude.{◌≤◌};
 
-use feed::{Counts, ImportEnd};
-use packed::PackedHop;
-use routes::Looked;
-use runs::Built;
-use segment::Packing;
-use std::io;
+use feed::{Counts, RowNumber};
+use ground::Refusal;
+use print::Prefix;
+use segment::Packed;
+use std::{fmt, io};
+
+// Rule 14.1: list A, as a feed.
+pub const LIST_A: &[u8] =
+    b"200.24.0.0/14 1\n200.26.0.0/15 2\n200.27.0.0/16 3\n200.27.64.0/18 1\n200.27.112.0/20 2\n200.27.128.0/20 1\n200.27.240.0/20 2\n";
 
 // What stands in a key's slot that nothing has written: 9.9.9.9/32. In a hop's slot and in the report it is 9.
 pub const UNWRITTEN: u64 = 9701573216;
 
+// The answer of a lookup, or the number of its refusal.
+fn looked_up(rt: &impl Print, a: u32, r: Result<u16, Refusal>) -> io::Result<()> {
+    match r {
+        Ok(hop) => print::answer(rt, a, hop),
+        Err(e) => {
+            let number = u32::from(e);
+            println!(rt; "{number}")
+        }
+    }
+}
+
 // The plain answer at an address.
 fn plain(rt: &impl Print, count: usize, keys: &[u64], hops: &[u16], a: u32) -> io::Result<()> {
-    match routes::plain_lookup(count, keys, hops, a) {
-        Looked::Hop(hop) => print::answer(rt, a, hop),
-        Looked::IllFormed => print::text(rt, b"11\n"),
-    }
+    looked_up(rt, a, routes::plain_lookup(count, keys, hops, a))
 }
 
 // Rule 14.3: the plain answers of list A.
 fn plain_answers(rt: &impl Print) -> io::Result<()> {
-    print::text(rt, b"# Plain answers of list A\n")?;
+    println!(rt; "# Plain answers of list A")?;
     let mut keys = [0u64; 7];
     let mut hops = [0u16; 7];
     let mut report = [0u8; 7];
-    let a =
-        b"200.24.0.0/14 1\n200.26.0.0/15 2\n200.27.0.0/16 3\n200.27.64.0/18 1\n200.27.112.0/20 2\n200.27.128.0/20 1\n200.27.240.0/20 2\n";
-    feed::import(a, &mut keys, &mut hops, &mut report);
+    let _ = feed::import(LIST_A, &mut keys, &mut hops, &mut report);
     plain(rt, 7, &keys, &hops, 3357241514)?;
     plain(rt, 7, &keys, &hops, 3357278208)?;
     plain(rt, 7, &keys, &hops, 3357016063)?;
@@ -41,95 +50,37 @@ fn plain_answers(rt: &impl Print) -> io::Result<()> {
     plain(rt, 7, &keys, &hops, 4294967295)
 }
 
-// A number on a line of numbers.
-fn item(rt: &impl Print, n: u64) -> io::Result<()> {
-    print::text(rt, b" ")?;
-    print::number(rt, n)
-}
-
 // The number that an import returns, and the counts.
-fn counts(rt: &impl Print, number: u64, c: Counts) -> io::Result<()> {
-    print::line(rt, b"number", number)?;
-    print::text(rt, b"counts")?;
-    item(rt, c.rows as u64)?;
-    item(rt, c.of[feed::TAKEN as usize] as u64)?;
-    item(rt, c.of[feed::SHAPE as usize] as u64)?;
-    item(rt, c.of[feed::ZEROS as usize] as u64)?;
-    item(rt, c.of[feed::RANGE as usize] as u64)?;
-    item(rt, c.of[feed::HOST_BITS as usize] as u64)?;
-    item(rt, c.of[feed::REPLACED as usize] as u64)?;
-    item(rt, c.of[feed::NO_ROOM_LEFT as usize] as u64)?;
-    print::text(rt, b"\n")
+fn counts(rt: &impl Print, number: u32, c: Counts) -> io::Result<()> {
+    println!(rt; "number {number}")?;
+    let rows = c.rows;
+    let taken = c.of[RowNumber::Taken as usize];
+    let shape = c.of[RowNumber::Shape as usize];
+    let zeros = c.of[RowNumber::Zeros as usize];
+    let range = c.of[RowNumber::Range as usize];
+    let host_bits = c.of[RowNumber::HostBits as usize];
+    let replaced = c.of[RowNumber::Replaced as usize];
+    let no_room = c.of[RowNumber::NoRoomLeft as usize];
+    println!(rt; "counts {rows} {taken} {shape} {zeros} {range} {host_bits} {replaced} {no_room}")
 }
 
-// The slots that an import leaves: those of its report, its keys or its hops.
-#[derive(Clone, Copy)]
-pub enum Column {
-    Report,
-    Keys,
-    Hops,
-}
-
-// A byte of the report on a line of numbers.
-fn row_number(rt: &impl Print, n: u8) -> io::Result<()> {
-    item(rt, n as u64)
-}
-
-// A hop on a line of numbers.
-fn hop(rt: &impl Print, h: u16) -> io::Result<()> {
-    item(rt, h as u64)
-}
-
-// A key, as its prefix, on a line of them.
-fn key(rt: &impl Print, k: u64) -> io::Result<()> {
-    print::text(rt, b" ")?;
-    print::prefix(rt, k)
-}
-
-// One slot of a column, if it has one at this place.
-fn slot(
-    rt: &impl Print,
-    column: Column,
-    i: usize,
-    report: &[u8],
-    keys: &[u64],
-    hops: &[u16],
-) -> io::Result<()> {
-    match column {
-        Column::Report => {
-            if i < report.len() {
-                row_number(rt, report[i])?;
-            }
-        }
-        Column::Keys => {
-            if i < keys.len() {
-                key(rt, keys[i])?;
-            }
-        }
-        Column::Hops => {
-            if i < hops.len() {
-                hop(rt, hops[i])?;
-            }
-        }
+// A column's name and its numbers, on a line.
+pub fn numbers<T: fmt::Display>(rt: &impl Print, name: &str, column: &[T]) -> io::Result<()> {
+    print!(rt; "{name}")?;
+    for number in column {
+        print!(rt; " {number}")?;
     }
-    Ok(())
+    println!(rt; "")
 }
 
-// A column's name and its first `count` slots, on a line.
-pub fn show(
-    rt: &impl Print,
-    name: &[u8],
-    column: Column,
-    count: usize,
-    report: &[u8],
-    keys: &[u64],
-    hops: &[u16],
-) -> io::Result<()> {
-    print::text(rt, name)?;
-    for i in 0..count {
-        slot(rt, column, i, report, keys, hops)?;
+// A column's name and its keys, as their prefixes, on a line.
+pub fn prefixes(rt: &impl Print, name: &str, keys: &[u64]) -> io::Result<()> {
+    print!(rt; "{name}")?;
+    for key in keys {
+        let prefix = Prefix(*key);
+        print!(rt; " {prefix}")?;
     }
-    print::text(rt, b"\n")
+    println!(rt; "")
 }
 
 // An import, and what it leaves in all that it was lent.
@@ -140,33 +91,20 @@ fn imported(
     hops: &mut [u16],
     report: &mut [u8],
 ) -> io::Result<()> {
-    let i = feed::import(feed, keys, hops, report);
-    let end = i.end;
-    let c = i.counts;
-    match end {
-        ImportEnd::Done => counts(rt, 0, c)?,
-        ImportEnd::ReportShort => counts(rt, 12, c)?,
+    match feed::import(feed, keys, hops, report) {
+        Ok(c) => counts(rt, 0, c)?,
+        Err(e) => counts(rt, u32::from(e), Counts::default())?,
     }
-    show(
-        rt,
-        b"report",
-        Column::Report,
-        report.len(),
-        report,
-        keys,
-        hops,
-    )?;
-    show(rt, b"keys", Column::Keys, keys.len(), report, keys, hops)?;
-    show(rt, b"hops", Column::Hops, hops.len(), report, keys, hops)
+    numbers(rt, "report", report)?;
+    prefixes(rt, "keys", keys)?;
+    numbers(rt, "hops", hops)
 }
 
 // An import into slots that hold what nothing has written, `k` for keys, `h` for hops and `r` for the report.
-fn import(rt: &impl Print, name: &[u8], feed: &[u8], k: usize, h: usize, r: usize) -> io::Result<()>
+fn import(rt: &impl Print, name: &str, feed: &[u8], k: usize, h: usize, r: usize) -> io::Result<()>
     requires { (k ≤ 16) × (h ≤ 16) × (r ≤ 16) }
 {
-    print::text(rt, b"# Import: ")?;
-    print::text(rt, name)?;
-    print::text(rt, b"\n")?;
+    println!(rt; "# Import: {name}")?;
     let mut keys = [UNWRITTEN; 16];
     let mut hops = [9u16; 16];
     let mut report = [9u8; 16];
@@ -177,27 +115,27 @@ fn import(rt: &impl Print, name: &[u8], feed: &[u8], k: usize, h: usize, r: usiz
 fn import_rows(rt: &impl Print) -> io::Result<()> {
     import(
         rt,
-        b"the five rows of document 01",
+        "the five rows of document 01",
         b"10.0.0.0/8 7\n10.0.0.1/8 7\n10.0.0.0/8 9\n\n10.1.0.0/16 70000\n",
         3,
         3,
         6,
     )?;
-    import(rt, b"0 bytes", b"", 2, 2, 2)?;
-    import(rt, b"only LFs", b"\n\n\n", 2, 2, 4)?;
-    import(rt, b"no LF at all", b"1.0.0.0/8 1", 2, 2, 2)?;
+    import(rt, "0 bytes", b"", 2, 2, 2)?;
+    import(rt, "only LFs", b"\n\n\n", 2, 2, 4)?;
+    import(rt, "no LF at all", b"1.0.0.0/8 1", 2, 2, 2)?;
     import(
         rt,
-        b"no LF after the last row",
+        "no LF after the last row",
         b"1.0.0.0/8 1\n2.0.0.0/8 2",
         3,
         3,
         3,
     )?;
-    import(rt, b"an empty row first", b"\n1.0.0.0/8 1\n", 2, 2, 3)?;
+    import(rt, "an empty row first", b"\n1.0.0.0/8 1\n", 2, 2, 3)?;
     import(
         rt,
-        b"keys in order",
+        "keys in order",
         b"3.0.0.0/8 3\n1.0.0.0/16 1\n2.0.0.0/8 2\n1.0.0.0/8 4\n",
         5,
         5,
@@ -207,19 +145,19 @@ fn import_rows(rt: &impl Print) -> io::Result<()> {
 
 // Rule 3.3: rows that aren't of the form.
 fn import_shapes(rt: &impl Print) -> io::Result<()> {
-    import(rt, b"NUL", b"\0\n1.0.0.0/8 1\0\n1.0.0.0\0/8 1\n", 2, 2, 4)?;
+    import(rt, "NUL", b"\0\n1.0.0.0/8 1\0\n1.0.0.0\0/8 1\n", 2, 2, 4)?;
     import(
         rt,
-        b"byte 255",
+        "byte 255",
         b"\xff\n1.0.0.0/8 1\xff\n\xff1.0.0.0/8 1\n",
         2,
         2,
         4,
     )?;
-    import(rt, b"CR", b"1.0.0.0/8 1\r\n\r\n2.0.0.0/8 2\n", 2, 2, 4)?;
+    import(rt, "CR", b"1.0.0.0/8 1\r\n\r\n2.0.0.0/8 2\n", 2, 2, 4)?;
     import(
         rt,
-        b"tab",
+        "tab",
         b"1.0.0.0/8\t1\n1.0.0.0/8 1\t\n\t1.0.0.0/8 1\n",
         2,
         2,
@@ -227,7 +165,7 @@ fn import_shapes(rt: &impl Print) -> io::Result<()> {
     )?;
     import(
         rt,
-        b"spaces",
+        "spaces",
         b"1.0.0.0/8  1\n 1.0.0.0/8 1\n1.0.0.0/8 1 \n1.0.0.0 /8 1\n1.0.0.0/81\n",
         2,
         2,
@@ -235,17 +173,17 @@ fn import_shapes(rt: &impl Print) -> io::Result<()> {
     )?;
     import(
         rt,
-        b"parts missing",
+        "parts missing",
         b"1.0.0.0/8 \n1.0.0.0/ 1\n1.0.0/8 1\n1.0.0./8 1\n.0.0.0/8 1\n1.0.0.0.0/8 1\n1.0.0.0 1\n",
         2,
         2,
         8,
     )?;
     let digits = [b'1'; 400];
-    import(rt, b"a very long row", &digits, 2, 2, 2)?;
+    import(rt, "a very long row", &digits, 2, 2, 2)?;
     import(
         rt,
-        b"a long row before a good one",
+        "a long row before a good one",
         b"1.0.0.0/8 1111111111111111111111111111111111111111111111111111111111111111\n2.0.0.0/8 2\n",
         2,
         2,
@@ -257,7 +195,7 @@ fn import_shapes(rt: &impl Print) -> io::Result<()> {
 fn import_values(rt: &impl Print) -> io::Result<()> {
     import(
         rt,
-        b"octets",
+        "octets",
         b"255.255.255.255/32 1\n256.0.0.0/8 1\n999.0.0.0/8 1\n1000.0.0.0/8 1\n0.0.0.256/32 1\n0.0.0.1000/32 1\n",
         2,
         2,
@@ -265,7 +203,7 @@ fn import_values(rt: &impl Print) -> io::Result<()> {
     )?;
     import(
         rt,
-        b"lengths",
+        "lengths",
         b"0.0.0.0/0 1\n0.0.0.0/32 2\n0.0.0.0/33 1\n0.0.0.0/99 1\n0.0.0.0/100 1\n0.0.0.0/032 1\n",
         3,
         3,
@@ -273,7 +211,7 @@ fn import_values(rt: &impl Print) -> io::Result<()> {
     )?;
     import(
         rt,
-        b"hops",
+        "hops",
         b"1.0.0.0/8 65535\n2.0.0.0/8 65536\n3.0.0.0/8 70000\n4.0.0.0/8 100000\n5.0.0.0/8 0\n6.0.0.0/8 00000\n7.0.0.0/8 000001\n",
         2,
         2,
@@ -281,7 +219,7 @@ fn import_values(rt: &impl Print) -> io::Result<()> {
     )?;
     import(
         rt,
-        b"leading zeros",
+        "leading zeros",
         b"010.000.00.0/08 00007\n10.0.0.0/8 9\n001.002.003.000/24 01\n10.0.0.0/8 00\n0.0.0.0/0 100\n",
         3,
         3,
@@ -289,7 +227,7 @@ fn import_values(rt: &impl Print) -> io::Result<()> {
     )?;
     import(
         rt,
-        b"zeros after shape and before range",
+        "zeros after shape and before range",
         b"010.0.0.256/8 7\n010.0.0.0/8 7x\n10.0.0.0/033 7\n10.0.0.1/08 0\n",
         2,
         2,
@@ -301,7 +239,7 @@ fn import_values(rt: &impl Print) -> io::Result<()> {
 fn import_faults(rt: &impl Print) -> io::Result<()> {
     import(
         rt,
-        b"host bits",
+        "host bits",
         b"10.0.0.1/8 1\n10.0.0.1/31 1\n10.0.0.1/32 1\n128.0.0.0/0 1\n128.0.0.0/1 2\n0.0.0.1/0 1\n",
         3,
         3,
@@ -309,7 +247,7 @@ fn import_faults(rt: &impl Print) -> io::Result<()> {
     )?;
     import(
         rt,
-        b"shape before range before host bits",
+        "shape before range before host bits",
         b"999.2.3.4/5 6x\n999.2.3.4/5 6\n1.2.3.4/5 6\n1.2.3.4/5 0\n",
         2,
         2,
@@ -321,17 +259,17 @@ fn import_faults(rt: &impl Print) -> io::Result<()> {
 fn import_rooms(rt: &impl Print) -> io::Result<()> {
     import(
         rt,
-        b"slices of length 0",
+        "slices of length 0",
         b"1.0.0.0/8 1\n\n1.0.0.0/8 1\n",
         0,
         0,
         4,
     )?;
-    import(rt, b"keys of length 0", b"1.0.0.0/8 1\n", 0, 2, 2)?;
-    import(rt, b"hops of length 0", b"1.0.0.0/8 1\n", 2, 0, 2)?;
+    import(rt, "keys of length 0", b"1.0.0.0/8 1\n", 0, 2, 2)?;
+    import(rt, "hops of length 0", b"1.0.0.0/8 1\n", 2, 0, 2)?;
     import(
         rt,
-        b"more keys than hops",
+        "more keys than hops",
         b"3.0.0.0/8 3\n2.0.0.0/8 2\n1.0.0.0/8 1\n",
         4,
         2,
@@ -339,7 +277,7 @@ fn import_rooms(rt: &impl Print) -> io::Result<()> {
     )?;
     import(
         rt,
-        b"more hops than keys",
+        "more hops than keys",
         b"3.0.0.0/8 3\n2.0.0.0/8 2\n1.0.0.0/8 1\n",
         2,
         4,
@@ -347,7 +285,7 @@ fn import_rooms(rt: &impl Print) -> io::Result<()> {
     )?;
     import(
         rt,
-        b"replaced rows, and no room",
+        "replaced rows, and no room",
         b"1.0.0.0/8 1\n2.0.0.0/8 2\n2.0.0.0/8 3\n1.0.0.0/8 4\n2.0.0.0/9 5\n\n2.0.0.1/8 6\n",
         1,
         1,
@@ -359,7 +297,7 @@ fn import_rooms(rt: &impl Print) -> io::Result<()> {
 fn import_reports(rt: &impl Print) -> io::Result<()> {
     import(
         rt,
-        b"a report as long as the rows",
+        "a report as long as the rows",
         b"1.0.0.0/8 1\n\n2.0.0.0/8 2",
         3,
         3,
@@ -367,14 +305,14 @@ fn import_reports(rt: &impl Print) -> io::Result<()> {
     )?;
     import(
         rt,
-        b"a report one byte short",
+        "a report one byte short",
         b"1.0.0.0/8 1\n\n2.0.0.0/8 2",
         3,
         3,
         2,
     )?;
-    import(rt, b"a report of length 0", b"\n", 1, 1, 0)?;
-    import(rt, b"a report of length 0 for 0 bytes", b"", 1, 1, 0)
+    import(rt, "a report of length 0", b"\n", 1, 1, 0)?;
+    import(rt, "a report of length 0 for 0 bytes", b"", 1, 1, 0)
 }
 
 // The number that a build returns, the count of runs, and every slot that it was lent.
@@ -386,35 +324,27 @@ fn built(
     starts: &mut [u32],
     rhops: &mut [u16],
 ) -> io::Result<()> {
-    let mut number = 0;
-    let mut n = 0;
-    match runs::build(count, keys, hops, starts, rhops) {
-        Built::Runs(runs) => n = runs,
-        Built::IllFormed => number = 11,
-        Built::NoRoom => number = 13,
-    }
-    print::line(rt, b"number", number)?;
-    print::line(rt, b"runs", n as u64)?;
+    let (number, n) = match runs::build(count, keys, hops, starts, rhops) {
+        Ok(n) => (0, n),
+        Err(e) => (u32::from(e), 0),
+    };
+    println!(rt; "number {number}")?;
+    println!(rt; "runs {n}")?;
     print::runs(rt, starts.len(), starts, rhops)
 }
 
 // The run table of a feed's list, built into `room` slots that hold what nothing has written.
-fn build(rt: &impl Print, name: &[u8], feed: &[u8], room: usize) -> io::Result<()>
+fn build(rt: &impl Print, name: &str, feed: &[u8], room: usize) -> io::Result<()>
     requires { room ≤ 16 }
 {
-    print::text(rt, b"# Run table: ")?;
-    print::text(rt, name)?;
-    print::text(rt, b"\n")?;
+    println!(rt; "# Run table: {name}")?;
     let mut keys = [0u64; 8];
     let mut hops = [0u16; 8];
     let mut report = [0u8; 8];
-    let i = feed::import(feed, &mut keys, &mut hops, &mut report);
-    let end = i.end;
-    let ImportEnd::Done = end else {
+    let Ok(c) = feed::import(feed, &mut keys, &mut hops, &mut report) else {
         return Ok(());
     };
-    let c = i.counts;
-    let count = c.of[feed::TAKEN as usize];
+    let count = c.of[RowNumber::Taken as usize];
     let mut starts = [151587081u32; 16];
     let mut rhops = [9u16; 16];
     built(
@@ -429,40 +359,25 @@ fn build(rt: &impl Print, name: &[u8], feed: &[u8], room: usize) -> io::Result<(
 
 // Rules 14.4, 14.7 and 14.8: the run tables of list A.
 fn builds_of_a(rt: &impl Print) -> io::Result<()> {
+    build(rt, "list A", LIST_A, 12)?;
+    build(rt, "list A in as many slots as it has runs", LIST_A, 10)?;
+    build(rt, "list A in one slot less", LIST_A, 9)?;
     build(
         rt,
-        b"list A",
-        b"200.24.0.0/14 1\n200.26.0.0/15 2\n200.27.0.0/16 3\n200.27.64.0/18 1\n200.27.112.0/20 2\n200.27.128.0/20 1\n200.27.240.0/20 2\n",
-        12,
-    )?;
-    build(
-        rt,
-        b"list A in as many slots as it has runs",
-        b"200.24.0.0/14 1\n200.26.0.0/15 2\n200.27.0.0/16 3\n200.27.64.0/18 1\n200.27.112.0/20 2\n200.27.128.0/20 1\n200.27.240.0/20 2\n",
-        10,
-    )?;
-    build(
-        rt,
-        b"list A in one slot less",
-        b"200.24.0.0/14 1\n200.26.0.0/15 2\n200.27.0.0/16 3\n200.27.64.0/18 1\n200.27.112.0/20 2\n200.27.128.0/20 1\n200.27.240.0/20 2\n",
-        9,
-    )?;
-    build(
-        rt,
-        b"A without 200.27.64.0/18",
+        "A without 200.27.64.0/18",
         b"200.24.0.0/14 1\n200.26.0.0/15 2\n200.27.0.0/16 3\n200.27.112.0/20 2\n200.27.128.0/20 1\n200.27.240.0/20 2\n",
         10,
     )?;
     build(
         rt,
-        b"A with 200.27.224.0/19 hop 1",
+        "A with 200.27.224.0/19 hop 1",
         b"200.24.0.0/14 1\n200.26.0.0/15 2\n200.27.0.0/16 3\n200.27.64.0/18 1\n200.27.112.0/20 2\n\
           200.27.128.0/20 1\n200.27.224.0/19 1\n200.27.240.0/20 2\n",
         12,
     )?;
     build(
         rt,
-        b"A with 200.27.224.0/19 hop 3",
+        "A with 200.27.224.0/19 hop 3",
         b"200.24.0.0/14 1\n200.26.0.0/15 2\n200.27.0.0/16 3\n200.27.64.0/18 1\n200.27.112.0/20 2\n\
           200.27.128.0/20 1\n200.27.224.0/19 3\n200.27.240.0/20 2\n",
         12,
@@ -471,36 +386,32 @@ fn builds_of_a(rt: &impl Print) -> io::Result<()> {
 
 // Rule 14.11: the other run tables. Rule 15.1: a route whose loss makes more runs. And corners.
 fn builds_of_corners(rt: &impl Print) -> io::Result<()> {
-    build(rt, b"the empty list", b"", 2)?;
-    build(rt, b"the empty list in no slot", b"", 0)?;
+    build(rt, "the empty list", b"", 2)?;
+    build(rt, "the empty list in no slot", b"", 0)?;
     build(
         rt,
-        b"only 255.255.255.255/32 hop 5",
+        "only 255.255.255.255/32 hop 5",
         b"255.255.255.255/32 5\n",
         3,
     )?;
-    build(rt, b"0.0.0.0/0 hop 4", b"0.0.0.0/0 4\n", 2)?;
+    build(rt, "0.0.0.0/0 hop 4", b"0.0.0.0/0 4\n", 2)?;
     build(
         rt,
-        b"a route between two siblings of its hop, under a parent of another",
+        "a route between two siblings of its hop, under a parent of another",
         b"10.0.0.0/8 1\n10.0.0.0/16 2\n10.1.0.0/16 2\n10.2.0.0/16 2\n",
         5,
     )?;
     build(
         rt,
-        b"the same without it",
+        "the same without it",
         b"10.0.0.0/8 1\n10.0.0.0/16 2\n10.2.0.0/16 2\n",
         7,
     )
 }
 
 // Up to 16 slots of a column, after its name on a line.
-fn slots(rt: &impl Print, name: &[u8], column: &[u16]) -> io::Result<()> {
-    print::text(rt, name)?;
-    for h in column.iter().take(16) {
-        hop(rt, *h)?;
-    }
-    print::text(rt, b"\n")
+fn slots(rt: &impl Print, name: &str, column: &[u16]) -> io::Result<()> {
+    numbers(rt, name, column.get(..16).unwrap_or(column))
 }
 
 // What a packed segment answers at an address.
@@ -512,30 +423,28 @@ fn in_packed(
     hops: &[u16],
     a: u32,
 ) -> io::Result<()> {
-    match packed::packed_lookup(width, words, bases, hops, a) {
-        PackedHop::Hop(hop) => print::answer(rt, a, hop),
-        PackedHop::Outside => print::text(rt, b"19\n"),
-    }
+    looked_up(rt, a, packed::packed_lookup(width, words, bases, hops, a))
 }
 
 // A packing's number, the width, the counts of words and of hops, and the first slots of each slice that it was lent.
 fn packed(
     rt: &impl Print,
-    number: u64,
-    width: u64,
-    word_count: u64,
-    hop_count: u64,
+    number: u32,
+    p: Packed,
     words: &[u16],
     bases: &[u16],
     hops: &[u16],
 ) -> io::Result<()> {
-    print::line(rt, b"number", number)?;
-    print::line(rt, b"width", width)?;
-    print::line(rt, b"word count", word_count)?;
-    print::line(rt, b"hop count", hop_count)?;
-    slots(rt, b"words", words)?;
-    slots(rt, b"bases", bases)?;
-    slots(rt, b"hops", hops)
+    let width = p.width;
+    let word_count = p.words;
+    let hop_count = p.hops;
+    println!(rt; "number {number}")?;
+    println!(rt; "width {width}")?;
+    println!(rt; "word count {word_count}")?;
+    println!(rt; "hop count {hop_count}")?;
+    slots(rt, "words", words)?;
+    slots(rt, "bases", bases)?;
+    slots(rt, "hops", hops)
 }
 
 // Three answers of packed segment q: at its ends, and at the address `a`.
@@ -570,17 +479,18 @@ fn packing(
     out: &mut [u16],
 ) -> io::Result<()> {
     match segment::pack(q, count, keys, hops, runs, starts, rhops, words, bases, out) {
-        Packing::Done {
-            width,
-            words: n,
-            hops: m,
-        } => {
-            packed(rt, 0, width, n as u64, m as u64, words, bases, out)?;
-            answers(rt, q, a, (width % 32) as u32, words, bases, out)
+        Ok(p) => {
+            packed(rt, 0, p, words, bases, out)?;
+            answers(rt, q, a, (p.width % 32) as u32, words, bases, out)
         }
-        Packing::IllFormed => packed(rt, 11, 0, 0, 0, words, bases, out),
-        Packing::NotItsRuns => packed(rt, 14, 0, 0, 0, words, bases, out),
-        Packing::NoRoom => packed(rt, 13, 0, 0, 0, words, bases, out),
+        Err(e) => {
+            let none = Packed {
+                width: 0,
+                words: 0,
+                hops: 0,
+            };
+            packed(rt, u32::from(e), none, words, bases, out)
+        }
     }
 }
 
@@ -597,24 +507,22 @@ fn of_feed(
     let mut keys = [0u64; 8];
     let mut hops = [0u16; 8];
     let mut report = [0u8; 8];
-    let i = feed::import(feed, &mut keys, &mut hops, &mut report);
-    let c = i.counts;
-    let count = c.of[feed::TAKEN as usize];
+    let c = feed::import(feed, &mut keys, &mut hops, &mut report).unwrap_or(Counts::default());
+    let count = c.of[RowNumber::Taken as usize];
     let mut starts = [0u32; 17];
     let mut rhops = [0u16; 17];
     match runs::build(count, &keys, &hops, &mut starts, &mut rhops) {
-        Built::Runs(n) => packing(
+        Ok(n) => packing(
             rt, q, a, count, &keys, &hops, n, &starts, &rhops, words, bases, out,
         ),
-        Built::IllFormed => print::text(rt, b"run table refused\n"),
-        Built::NoRoom => print::text(rt, b"run table refused\n"),
+        Err(_) => println!(rt; "run table refused"),
     }
 }
 
 // Segment q of a feed's list, packed into `w` words and bases and `h` hops that hold what nothing has written.
 fn pack(
     rt: &impl Print,
-    name: &[u8],
+    name: &str,
     feed: &[u8],
     q: u16,
     a: u32,
@@ -623,9 +531,7 @@ fn pack(
 ) -> io::Result<()>
     requires { (w ≤ 4096) × (h ≤ 16) }
 {
-    print::text(rt, b"# Packed segment: ")?;
-    print::text(rt, name)?;
-    print::text(rt, b"\n")?;
+    println!(rt; "# Packed segment: {name}")?;
     let mut words = [9u16; 4096];
     let mut bases = [9u16; 4096];
     let mut out = [9u16; 16];
@@ -644,7 +550,7 @@ fn pack(
 fn packings(rt: &impl Print) -> io::Result<()> {
     pack(
         rt,
-        b"51227 of A with 200.27.240.0/21 hop 2",
+        "51227 of A with 200.27.240.0/21 hop 2",
         b"200.24.0.0/14 1\n200.26.0.0/15 2\n200.27.0.0/16 3\n200.27.64.0/18 1\n200.27.112.0/20 2\n\
           200.27.128.0/20 1\n200.27.240.0/20 2\n200.27.240.0/21 2\n",
         51227,
@@ -654,7 +560,7 @@ fn packings(rt: &impl Print) -> io::Result<()> {
     )?;
     pack(
         rt,
-        b"the same in one hop less than it takes",
+        "the same in one hop less than it takes",
         b"200.24.0.0/14 1\n200.26.0.0/15 2\n200.27.0.0/16 3\n200.27.64.0/18 1\n200.27.112.0/20 2\n\
           200.27.128.0/20 1\n200.27.240.0/20 2\n200.27.240.0/21 2\n",
         51227,
@@ -664,7 +570,7 @@ fn packings(rt: &impl Print) -> io::Result<()> {
     )?;
     pack(
         rt,
-        b"2624 inside 10.0.0.0/8, width 0",
+        "2624 inside 10.0.0.0/8, width 0",
         b"10.0.0.0/8 7\n10.65.0.1/32 5\n",
         2624,
         171996926,
@@ -673,14 +579,14 @@ fn packings(rt: &impl Print) -> io::Result<()> {
     )?;
     pack(
         rt,
-        b"2624 with 10.64.0.1/32 and 10.64.255.255/32, width 16",
+        "2624 with 10.64.0.1/32 and 10.64.255.255/32, width 16",
         b"10.0.0.0/8 7\n10.64.0.1/32 5\n10.64.255.255/32 9\n",
         2624,
         171966465,
         4096,
         4,
     )?;
-    pack(rt, b"65535 of the empty list", b"", 65535, 4294967294, 1, 1)
+    pack(rt, "65535 of the empty list", b"", 65535, 4294967294, 1, 1)
 }
 
 fn main(rt: HostRuntime) -> io::Result<()> {

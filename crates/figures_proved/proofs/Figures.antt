@@ -9,7 +9,7 @@ use lib.Dec.{T}
 use lib.Count.{ones, ones_in}
 use Rattle.ground.specs.Numbers.{first_fault, outcome}
 use Rattle.ground.specs.Slots.{same, written, rewritten}
-use Rattle.ground.specs.Column.{ascends, is_in, inserted_at, removed_at, lower}
+use Rattle.ground.specs.Column.{ascends, is_in, inserted_at, removed_at, taken_out, lower}
 use Rattle.ground.specs.Stretch.{stretch, among, turns_from}
 use Rattle.halving.specs.Halving.{halves, halving}
 use Rattle.cidr.specs.Prefix.{size, host_bits, is_prefix, holds, covers}
@@ -49,7 +49,7 @@ unfolding all_hold same first_fault stretch among turns_from size host_bits hold
 marked_hold = tt
 
 pub corners_hold : T (all_hold corners)
-unfolding places_of place_of reason_for why_checks why why_text_of why_text_checks why_text lower row_length run_room build_checks pair_ill pair_checks bad_prefix announce_checks announce withdraw_checks withdraw all_hold same written rewritten inserted_at removed_at first_fault outcome stretch among turns_from halves halving size host_bits is_prefix holds covers every those rows_of list_room prefixes hops_given ascends ascending half_rows good_rows well_formed half_formed formed matching longer longest plain announced withdrawn lookup_checks half_checks rows_in digits after_digits fields_of has_zero_in_front value_from in_places values_of out_of_range has_host_bits numbers_fault judged_numbers judged read_row row_number list_after row_numbers_from row_numbers list_from imported_list or_else hop_for last_hop hop_listed how_many counts_of import_checks import import_tally pull_of pull pulls_from pulls run_bytes start_at hop_at in_slices run_checks in_bytes width block_hop bit word_from words_for code_words kept_hops words_of bases_from bases_of packed_hops_of block_of ones_to past_place packed_checks covering relabelled first_half second_half split_checks decimal_by decimal dotted_text row_text text_of write_checks line_of name_lines count_lines run_lines ones ones_in is_in build_of plain_lookup half_lookup run_lookup bytes_checks bytes_lookup packed_lookup split write lookup_for_c run_lookup_for_c last_of probed_for_c written_for_c held_checks held_for_c
+unfolding places_of place_of reason_for why_checks why why_text_of why_text_checks why_text lower row_length run_room build_checks pair_ill pair_checks bad_prefix announce_checks announce withdraw_checks withdraw all_hold same written rewritten inserted_at taken_out first_fault outcome stretch among turns_from halves halving size host_bits is_prefix holds covers every those rows_of list_room prefixes hops_given ascends ascending half_rows good_rows well_formed half_formed formed matching longer longest plain announced withdrawn lookup_checks half_checks rows_in digits after_digits fields_of has_zero_in_front value_from in_places values_of out_of_range has_host_bits numbers_fault judged_numbers judged read_row row_number list_after row_numbers_from row_numbers list_from imported_list or_else hop_for last_hop hop_listed how_many counts_of import_checks import import_tally pull_of pull pulls_from pulls run_bytes start_at hop_at in_slices run_checks in_bytes width block_hop bit word_from words_for code_words kept_hops words_of bases_from bases_of packed_hops_of block_of ones_to past_place packed_checks covering relabelled first_half second_half split_checks decimal_by decimal dotted_text row_text text_of write_checks line_of name_lines count_lines run_lines ones ones_in is_in build_of plain_lookup half_lookup run_lookup bytes_checks bytes_lookup packed_lookup split write lookup_for_c run_lookup_for_c last_of probed_for_c written_for_c held_checks held_for_c
 corners_hold = tt
 
 -- Rule 11.10: a half with label 0 is built. Its run table is over all addresses and so isn't computed; three run slots are enough for it.

@@ -2,8 +2,7 @@ pub mod Truth
 pub mod Map
 pub mod Ascends
 pub mod Falls
-pub mod Column
+pub mod Moves
 pub mod Slots
 pub mod Numbers
 pub mod Lower
-pub mod Block

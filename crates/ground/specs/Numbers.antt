@@ -1,6 +1,8 @@
 -- Rule 5.1: each number that a call returns has its name here. Rule 5.2: the first check that finds a fault gives the number.
 -- Assumes nothing.
-use Rattle.std.specs.Prelude.{Bool, true, false, cond, List, [], ◌∷◌, ℕ, eqb}
+use Rattle.std.specs.Prelude.{Bool, true, false, cond, List, [], ◌∷◌, ℕ, eqb, ◌≡◌}
+use Rattle.ground.specs.declared.Refusal.{Refusal}
+use Rattle.ground.specs.declared.Refusal.TheVariants.{IllFormed, ReportShort, NoRoom, NotItsRuns, BadEdit, NotListed, BadSize, NoDefault, OutsidePacked}
 
 -- 0: the call did what it is for
 abbrev pub done : ℕ
@@ -41,6 +43,21 @@ no_default = 18
 -- 19: a packed lookup has a width above 16, or would read outside a slice
 abbrev pub outside_packed : ℕ
 outside_packed = 19
+
+-- the number of a refusal, and that a number is it
+abbrev pub number_of : Refusal → ℕ
+number_of IllFormed = ill_formed
+number_of ReportShort = report_short
+number_of NoRoom = no_room
+number_of NotItsRuns = not_its_runs
+number_of BadEdit = bad_edit
+number_of NotListed = not_listed
+number_of BadSize = bad_size
+number_of NoDefault = no_default
+number_of OutsidePacked = outside_packed
+
+abbrev pub GivesNumber : Refusal → ℕ → Type 0
+GivesNumber r n = n ≡ number_of r
 
 -- one check of a call: whether its fault is there, and the number that it then gives
 pub record Check : Type 0 where

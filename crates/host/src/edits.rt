@@ -6,7 +6,7 @@ ghost use Rattle.runs.specs.Table.{runs_lent};
 ghost use Rattle.runs.specs.Pair.{pair};
 ghost use Rattle.edit.specs.Edit.{announce, withdraw};
 
-use c_structs::edits::{WhelkEdit, edit_for_c};
+use c_structs::edits::WhelkEdit;
 
 // Rule 10.1: a prefix gets a row with the hop, or its row the hop, in a lent list and its run table.
 pub fn whelk_announce(
@@ -24,7 +24,7 @@ pub fn whelk_announce(
         ≡ announce net len hop
         (pair (list_lent count keys.old hops.old) (runs_lent runs starts.old rhops.old)) }
 {
-    edit_for_c(edit::announce(net, len, hop, count, keys, hops, runs, starts, rhops))
+    edit::announce(net, len, hop, count, keys, hops, runs, starts, rhops).into()
 }
 
 // Rule 10.1: a listed prefix loses its row, in a lent list and its run table.
@@ -42,5 +42,5 @@ pub fn whelk_withdraw(
         ≡ withdraw net len
         (pair (list_lent count keys.old hops.old) (runs_lent runs starts.old rhops.old)) }
 {
-    edit_for_c(edit::withdraw(net, len, count, keys, hops, runs, starts, rhops))
+    edit::withdraw(net, len, count, keys, hops, runs, starts, rhops).into()
 }

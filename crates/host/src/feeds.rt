@@ -5,16 +5,14 @@ ghost use Rattle.std.specs.Prelude.{◌≡◌};
 ghost use Rattle.rows.specs.Pull.{pull};
 
 use c_structs::number_of;
-use c_structs::pulls::{WhelkRow, pull_for_c};
+use c_structs::pulls::WhelkRow;
 use feed::Counts;
 
 // Rule 4.11: the row of a feed from a place on, and the place behind it.
 pub fn whelk_pull(feed: &[u8], place: usize) -> WhelkRow
     ensures { result ≡ pull_for_c (pull feed.now place) }
 {
-    let p = rows::pull_at(feed, place);
-    let row = p.row;
-    pull_for_c(row, p.next)
+    rows::pull_at(feed, place).into()
 }
 
 // Rule 4.9: import of a feed into lent keys, hops and report, with the counts in a lent tally.
@@ -29,6 +27,5 @@ pub fn whelk_import_tally(
         (record { keys = keys.old; hops = hops.old; report = report.old }) tally.old
         result keys.new hops.new report.new tally.new }
 {
-    let end = feed::import_tally(feed, keys, hops, report, tally);
-    number_of(end)
+    number_of(feed::import_tally(feed, keys, hops, report, tally))
 }

@@ -11,7 +11,7 @@ ghost use Rattle.host.specs.Exports.{held_gave_c, held_for_c};
 ghost use Rattle.std.specs.Prelude.{◌≡◌};
 ghost use Rattle.feed.specs.Import.{import};
 ghost use Rattle.routes.specs.Row.{list_lent};
-ghost use Rattle.routes.specs.Lookup.{plain_lookup, half_lookup};
+ghost use Rattle.routes.specs.Lookup.{lookup_gave, plain_lookup, half_lookup};
 ghost use Rattle.runs.specs.Table.{runs_lent};
 ghost use Rattle.runs.specs.Build.{slots_lent, build, build_half};
 ghost use Rattle.lookup.specs.Lookup.{run_lookup};
@@ -24,12 +24,9 @@ ghost use Rattle.c_structs.specs.Structs.{host_import_gave, host_pack_gave};
 ghost use Rattle.c_answers.specs.Exports.{lookup_for_c, probed_gave_c, probed_for_c, build_gave_c, build_for_c};
 ghost use Rattle.c_answers.specs.Exports.{write_gave_c, write_for_c, split_gave_c, split_for_c};
 
-use c_answers::{
-    LOOKUP_ILL_FORMED, LOOKUP_NO_ROOM, built_for_c, lookup_for_c, packed_for_c, parted_for_c,
-    probed_for_c, put_address, written_for_c,
-};
-use c_structs::{WhelkCounts, WhelkPacked, counts_for_c, packing_for_c};
-use lookup::Held;
+use c_answers::{count_for_c, lookup_for_c, probed_for_c, put_address};
+use c_structs::{WhelkCounts, WhelkPacked};
+use ground::Refusal;
 
 // Rule 4.1: import of a feed into lent keys, hops and report.
 pub fn whelk_import(
@@ -42,7 +39,7 @@ pub fn whelk_import(
         ≡ import feed.now
         (record { keys = keys.old; hops = hops.old; report = report.old }) }
 {
-    counts_for_c(feed::import(feed, keys, hops, report))
+    feed::import(feed, keys, hops, report).into()
 }
 
 // Rule 2.13: the plain answer of a list at an address.
@@ -52,20 +49,23 @@ pub fn whelk_plain_lookup(count: usize, keys: &[u64], hops: &[u16], a: u32) -> u
     lookup_for_c(routes::plain_lookup(count, keys, hops, a))
 }
 
-// Rules 7.8 and 7.9: lookup over run bytes, with the last address in the first four lent bytes; 13 for fewer.
+// Rules 7.8 and 7.9: lookup over run bytes, which leaves the last address in the first four lent bytes; 13 for fewer.
+fn held(bytes: &[u8], a: u32, out: &mut [u8]) -> Result<u16, Refusal>
+    ensures { held_gave_c (lookup_for_c (lookup_gave result)) out.new ≡ held_for_c bytes.now a out.old }
+{
+    let found = lookup::bytes_lookup(bytes, a)?;
+    if out.len() < 4 {
+        return Err(Refusal::NoRoom);
+    }
+    put_address(found.last, out);
+    Ok(found.hop)
+}
+
+// Rules 7.8 and 7.9: the same as C gets it.
 pub fn whelk_run_lookup(bytes: &[u8], a: u32, out: &mut [u8]) -> u32
     ensures { held_gave_c result out.new ≡ held_for_c bytes.now a out.old }
 {
-    match lookup::bytes_lookup(bytes, a) {
-        Held::Hop { hop, last } => {
-            if out.len() < 4 {
-                return LOOKUP_NO_ROOM;
-            }
-            put_address(last, out);
-            hop as u32
-        }
-        Held::IllFormed => LOOKUP_ILL_FORMED,
-    }
+    lookup_for_c(held(bytes, a, out))
 }
 
 // Rule 7.4: run lookup over the first `n` runs of lent starts and hops, with the last address in a lent number.
@@ -88,14 +88,14 @@ pub fn whelk_build(
         ≡ build_for_c
         (build (list_lent count keys.now hops.now) (slots_lent starts.old rhops.old)) }
 {
-    built_for_c(runs::build(count, keys, hops, starts, rhops))
+    count_for_c(runs::build(count, keys, hops, starts, rhops))
 }
 
 // Rules 9.10 to 9.13: lookup in a packed segment, by the last 16 bits of the address.
 pub fn whelk_packed_lookup(width: u32, words: &[u16], bases: &[u16], hops: &[u16], a: u32) -> u32
     ensures { result ≡ lookup_for_c (packed_lookup (segment_lent width words.now bases.now hops.now) a) }
 {
-    packed_for_c(packed::packed_lookup(width, words, bases, hops, a))
+    lookup_for_c(packed::packed_lookup(width, words, bases, hops, a))
 }
 
 // Rule 9.9: segment q of a list and its run table into lent words, bases and hops.
@@ -116,7 +116,7 @@ pub fn whelk_pack(
         (pair (list_lent count keys.now hops.now) (runs_lent runs starts.now rhops.now))
         (pack_lent words.old bases.old out.old) }
 {
-    packing_for_c(segment::pack(q, count, keys, hops, runs, starts, rhops, words, bases, out))
+    segment::pack(q, count, keys, hops, runs, starts, rhops, words, bases, out).into()
 }
 
 // Rule 12.3: the text of a list at the front of a lent buffer.
@@ -124,7 +124,7 @@ pub fn whelk_write(count: usize, keys: &[u64], hops: &[u16], buffer: &mut [u8]) 
     ensures { write_gave_c result buffer.new
         ≡ write_for_c (write (list_lent count keys.now hops.now) buffer.old) }
 {
-    written_for_c(text::write(count, keys, hops, buffer))
+    count_for_c(text::write(count, keys, hops, buffer))
 }
 
 // Rule 11.8: the label of a half at an address.
@@ -146,7 +146,7 @@ pub fn whelk_build_half(
         ≡ build_for_c
         (build_half (list_lent count keys.now labels.now) (slots_lent starts.old rlabels.old)) }
 {
-    built_for_c(runs::build_half(count, keys, labels, starts, rlabels))
+    count_for_c(runs::build_half(count, keys, labels, starts, rlabels))
 }
 
 // Rule 11.7: the second half of a list, into lent keys and labels.
@@ -162,5 +162,5 @@ pub fn whelk_split(
         ≡ split_for_c
         (split k (list_lent count keys.now hops.now) (split_lent out.old labels.old)) }
 {
-    parted_for_c(split::split(k, count, keys, hops, out, labels))
+    count_for_c(split::split(k, count, keys, hops, out, labels))
 }

@@ -6,8 +6,8 @@ ghost use Rattle.routes.specs.Row.{list_lent};
 ghost use Rattle.why.specs.Why.{why};
 ghost use Rattle.why.specs.Text.{why_text};
 
-use c_answers::written_for_c;
-use c_structs::reasons::{WhelkReason, reason_for_c};
+use c_answers::count_for_c;
+use c_structs::reasons::WhelkReason;
 
 // Rules 18.1 to 18.4: the places of the rows of a lent list that hold an address, into lent memory, and the reason.
 pub fn whelk_why(
@@ -20,7 +20,7 @@ pub fn whelk_why(
     ensures { why_gave_c result places.new
         ≡ why_for_c (why (list_lent count keys.now hops.now) a places.old) }
 {
-    reason_for_c(why::why(count, keys, hops, a, places))
+    why::why(count, keys, hops, a, places).into()
 }
 
 // Rule 18.5: these rows as the list writer writes them, into a lent buffer.
@@ -28,5 +28,5 @@ pub fn whelk_why_text(count: usize, keys: &[u64], hops: &[u16], a: u32, out: &mu
     ensures { write_gave_c result out.new
         ≡ write_for_c (why_text (list_lent count keys.now hops.now) a out.old) }
 {
-    written_for_c(why::why_text(count, keys, hops, a, out))
+    count_for_c(why::why_text(count, keys, hops, a, out))
 }

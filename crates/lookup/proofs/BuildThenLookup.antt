@@ -18,8 +18,8 @@ use Rattle.routes.specs.Row.{Row, ListLent, rows_lent}
 use Rattle.routes.specs.WellFormed.{formed}
 use Rattle.routes.specs.Plain.{plain}
 use Rattle.routes.specs.Lookup.{LookupOutcome, lookup_gave, lookup_checks, plain_lookup, half_checks, half_lookup}
-use Rattle.routes.specs.declared.Looked.{Looked}
-use Rattle.runs.specs.declared.Built.TheVariants.{Runs}
+use Rattle.std.proofs.Common.{Result, Ok}
+use Rattle.ground.specs.declared.Refusal.{Refusal}
 use Rattle.lookup.specs.declared.Probed.{Probed}
 use Rattle.runs.specs.Table.{runs_lent, run_starts, run_hops, starts_of, run_hops_of}
 use Rattle.runs.specs.Build.{SlotsLent, BuildOutcome, built, build_gave, build_of, build, build_half}
@@ -44,7 +44,7 @@ lookup_plain true l a e = rw e
 lookup_plain false l a e = rw e
 
 module _ (half : Bool) (l : ListLent) (t : SlotsLent) {n : ℕ} {starts hops : List ℕ}
-    (b : build_gave (Runs n) starts hops ≡ build_of half l t) where
+    (b : build_gave (Ok n) starts hops ≡ build_of half l t) where
   -- an accepted build's list is well-formed, so its lookup answers
   well : formed half l.count l.keys l.hops ≡ true
   well = ⊎_elim (λ e. e) (λ e. absurd (omega (arith, ap (λ (o : BuildOutcome). o.number) (b ∙ sym (build_ill half l t e))))) (decided _)
@@ -64,7 +64,7 @@ module _ (half : Bool) (l : ListLent) (t : SlotsLent) {n : ℕ} {starts hops : L
   hops_are : take n hops ≡ run_hops (rows_lent l)
   hops_are = ap (take n) (ap (λ (o : BuildOutcome). o.hops) left) ∙ take_written _ t.hops n (count_is ∙ sym (same_count (rows_lent l)))
 
-  then_lookup : {a : ℕ} (r : Probed) (p : Looked) → a < addresses → run_lookup_gave r ≡ run_lookup (runs_lent n starts hops) a
+  then_lookup : {a : ℕ} (r : Result Probed Refusal) (p : Result ℕ Refusal) → a < addresses → run_lookup_gave r ≡ run_lookup (runs_lent n starts hops) a
       → lookup_gave p ≡ lookup half l a → ((run_lookup_gave r).number ≡ done) × ((run_lookup_gave r).hop ≡ (lookup_gave p).hop)
   then_lookup {a} r p below e e' =
       let found = run_lookup_plain (rows_lent l) n starts hops count_is starts_are hops_are a below in (
@@ -72,29 +72,29 @@ module _ (half : Bool) (l : ListLent) (t : SlotsLent) {n : ℕ} {starts hops : L
         ap (λ (o : RunLookupOutcome). o.hop) e ∙ found.1 ∙ sym (ap (λ (o : LookupOutcome). o.hop) e' ∙ lookup_plain half l a well),
       )
 
-  then_holds : {a : ℕ} (r : Probed) → a < addresses → run_lookup_gave r ≡ run_lookup (runs_lent n starts hops) a
+  then_holds : {a : ℕ} (r : Result Probed Refusal) → a < addresses → run_lookup_gave r ≡ run_lookup (runs_lent n starts hops) a
       → HoldsUntil (λ b. (lookup half l b).hop) a (run_lookup_gave r).last
   then_holds {a} r below e =
       rw (ap (λ (o : RunLookupOutcome). o.last) e)
       (holds_as (λ b. lookup_plain half l b well) (holds_until (rows_lent l) n starts hops count_is starts_are hops_are a below))
 
 module _ (l : ListLent) (t : SlotsLent) {n : ℕ} {starts hops : List ℕ} where
-  pub build_then_lookup : build_gave (Runs n) starts hops ≡ build l t
-      → {a : ℕ} (r : Probed) (p : Looked) → a < addresses → run_lookup_gave r ≡ run_lookup (runs_lent n starts hops) a
+  pub build_then_lookup : build_gave (Ok n) starts hops ≡ build l t
+      → {a : ℕ} (r : Result Probed Refusal) (p : Result ℕ Refusal) → a < addresses → run_lookup_gave r ≡ run_lookup (runs_lent n starts hops) a
       → lookup_gave p ≡ plain_lookup l a → ((run_lookup_gave r).number ≡ done) × ((run_lookup_gave r).hop ≡ (lookup_gave p).hop)
   build_then_lookup b = then_lookup false l t b
 
-  pub build_half_then_lookup : build_gave (Runs n) starts hops ≡ build_half l t
-      → {a : ℕ} (r : Probed) (p : Looked) → a < addresses → run_lookup_gave r ≡ run_lookup (runs_lent n starts hops) a
+  pub build_half_then_lookup : build_gave (Ok n) starts hops ≡ build_half l t
+      → {a : ℕ} (r : Result Probed Refusal) (p : Result ℕ Refusal) → a < addresses → run_lookup_gave r ≡ run_lookup (runs_lent n starts hops) a
       → lookup_gave p ≡ half_lookup l a → ((run_lookup_gave r).number ≡ done) × ((run_lookup_gave r).hop ≡ (lookup_gave p).hop)
   build_half_then_lookup b = then_lookup true l t b
 
-  pub build_then_holds : build_gave (Runs n) starts hops ≡ build l t
-      → {a : ℕ} (r : Probed) → a < addresses → run_lookup_gave r ≡ run_lookup (runs_lent n starts hops) a
+  pub build_then_holds : build_gave (Ok n) starts hops ≡ build l t
+      → {a : ℕ} (r : Result Probed Refusal) → a < addresses → run_lookup_gave r ≡ run_lookup (runs_lent n starts hops) a
       → HoldsUntil (λ b. (plain_lookup l b).hop) a (run_lookup_gave r).last
   build_then_holds b = then_holds false l t b
 
-  pub build_half_then_holds : build_gave (Runs n) starts hops ≡ build_half l t
-      → {a : ℕ} (r : Probed) → a < addresses → run_lookup_gave r ≡ run_lookup (runs_lent n starts hops) a
+  pub build_half_then_holds : build_gave (Ok n) starts hops ≡ build_half l t
+      → {a : ℕ} (r : Result Probed Refusal) → a < addresses → run_lookup_gave r ≡ run_lookup (runs_lent n starts hops) a
       → HoldsUntil (λ b. (half_lookup l b).hop) a (run_lookup_gave r).last
   build_half_then_holds b = then_holds true l t b

@@ -9,14 +9,15 @@ use native.Mathlib.Omega.{arith}
 use lib.ListN.{length, get_or}
 use lib.Dec.{eqb}
 use borrow.Author.Tests.{eqb-false, eq-eqb, ne_eqb, lt-ltb, le-ltb}
+use Rattle.std.proofs.Common.{Result, Ok, Err}
+use Rattle.ground.specs.declared.Refusal.{Refusal}
+use Rattle.ground.specs.declared.Refusal.TheVariants.{IllFormed}
 use Rattle.ground.specs.Numbers.{first_fault, outcome, done, ill_formed}
 use Rattle.ground.proofs.Truth.{or_right}
-use Rattle.ground.proofs.Numbers.{outcome_done, outcome_refused}
+use Rattle.ground.proofs.Numbers.{outcome_done, outcome_refused, answer_by, tells_refusal}
 use Rattle.halving.proofs.Halving.{low_below, probes_at_most}
 use Rattle.lookup.specs.declared.Probed.{Probed}
-use Rattle.lookup.specs.declared.Probed.TheVariants as P
 use Rattle.lookup.specs.declared.Held.{Held}
-use Rattle.lookup.specs.declared.Held.TheVariants as H
 use Rattle.runs.specs.Table.{RunsLent}
 use Rattle.lookup.specs.Bytes.{start_at, hop_at}
 use Rattle.lookup.specs.Lookup.{last_of, RunLookupOutcome, probed, run_lookup_gave, in_slices, run_checks, run_lookup}
@@ -60,7 +61,7 @@ module _ (t : RunsLent) where
   runs_accepted some l = rw (ne_eqb t.count 0 (omega arith), le-ltb _ _ l)
 
   module _ (a : ℕ) where
-    pub refused : first_fault (run_checks t) ≡ ill_formed → run_lookup_gave P.IllFormed ≡ run_lookup t a
+    pub refused : first_fault (run_checks t) ≡ ill_formed → run_lookup_gave (Err IllFormed) ≡ run_lookup t a
     unfolding run_lookup
     refused e = sym (outcome_refused (run_checks t) _ _ ill_formed e (λ z. omega arith))
 
@@ -74,7 +75,7 @@ module _ (t : RunsLent) where
 
     pub found : {low last probes : ℕ} → first_fault (run_checks t) ≡ done
         → ReachedBy (λ i. get_or t.starts i 0) t.count a low last probes
-        → run_lookup_gave (P.Hop (get_or t.hops low 0) last probes) ≡ run_lookup t a
+        → run_lookup_gave (Ok (record { hop = get_or t.hops low 0; last = last; probes = probes })) ≡ run_lookup t a
     unfolding in_slices
     found e f = sym (accepted e ∙ rw (f.low_is, f.last_is, f.probes_are))
 
@@ -102,7 +103,7 @@ module _ (bytes : List ℕ) where
   sixes_accepted some e = rw (ne_eqb (length bytes) 0 (omega arith), eq-eqb (length bytes % 6) 0 e)
 
   module _ (a : ℕ) where
-    pub bytes_refused : first_fault (bytes_checks bytes) ≡ ill_formed → bytes_lookup_gave H.IllFormed ≡ bytes_lookup bytes a
+    pub bytes_refused : first_fault (bytes_checks bytes) ≡ ill_formed → bytes_lookup_gave (Err IllFormed) ≡ bytes_lookup bytes a
     unfolding bytes_lookup
     bytes_refused e = sym (outcome_refused (bytes_checks bytes) _ _ ill_formed e (λ z. omega arith))
 
@@ -114,27 +115,33 @@ module _ (bytes : List ℕ) where
 
     pub bytes_held : {hop low last probes : ℕ} → first_fault (bytes_checks bytes) ≡ done
         → ReachedBy (start_at bytes) (length bytes / 6) a low last probes → hop ≡ hop_at bytes low
-        → bytes_lookup_gave (H.Hop hop last) ≡ bytes_lookup bytes a
+        → bytes_lookup_gave (Ok (record { hop = hop; last = last })) ≡ bytes_lookup bytes a
     unfolding in_bytes
     bytes_held e f p = sym (bytes_looked_up e ∙ rw (p, f.low_is, f.last_is))
 
--- two answers with one outcome are the same
-one_answer : (r r' : Probed) → run_lookup_gave r ≡ run_lookup_gave r' → r ≡ r'
-one_answer (P.Hop h l p) (P.Hop h' l' p') e = ap (λ o. P.Hop o.hop o.last o.probes) e
-one_answer (P.Hop h l p) P.IllFormed e = absurd (omega (arith, ap (λ (o : RunLookupOutcome). o.number) e))
-one_answer P.IllFormed (P.Hop h l p) e = absurd (omega (arith, ap (λ (o : RunLookupOutcome). o.number) e))
-one_answer P.IllFormed P.IllFormed e = refl
+abbrev probed_by : RunLookupOutcome → Result Probed Refusal
+probed_by o = answer_by o.number (record { hop = o.hop; last = o.last; probes = o.probes })
 
-pub run_lookup_settled : (t : RunsLent) (a : ℕ) (r r' : Probed)
+tells : (r : Result Probed Refusal) → probed_by (run_lookup_gave r) ≡ r
+tells (Ok r) = refl
+tells (Err e) = tells_refusal e _
+
+pub run_lookup_settled : (t : RunsLent) (a : ℕ) (r r' : Result Probed Refusal)
     → run_lookup_gave r ≡ run_lookup t a → run_lookup_gave r' ≡ run_lookup t a → r ≡ r'
-run_lookup_settled t a r r' e e' = one_answer r r' (e ∙ sym e')
+run_lookup_settled t a r r' e e' = sym (tells r) ∙ ap probed_by (e ∙ sym e') ∙ tells r'
 
-one_held : (r r' : Held) → bytes_lookup_gave r ≡ bytes_lookup_gave r' → r ≡ r'
-one_held (H.Hop h l) (H.Hop h' l') e = ap (λ o. H.Hop o.hop o.last) e
-one_held (H.Hop h l) H.IllFormed e = absurd (omega (arith, ap (λ (o : BytesLookupOutcome). o.number) e))
-one_held H.IllFormed (H.Hop h l) e = absurd (omega (arith, ap (λ (o : BytesLookupOutcome). o.number) e))
-one_held H.IllFormed H.IllFormed e = refl
+abbrev held_by : BytesLookupOutcome → Result Held Refusal
+held_by o = answer_by o.number (record { hop = o.hop; last = o.last })
 
-pub bytes_lookup_settled : (bytes : List ℕ) (a : ℕ) (r r' : Held)
+tells_held : (r : Result Held Refusal) → held_by (bytes_lookup_gave r) ≡ r
+tells_held (Ok r) = refl
+tells_held (Err e) = tells_refusal e _
+
+pub bytes_lookup_settled : (bytes : List ℕ) (a : ℕ) (r r' : Result Held Refusal)
     → bytes_lookup_gave r ≡ bytes_lookup bytes a → bytes_lookup_gave r' ≡ bytes_lookup bytes a → r ≡ r'
-bytes_lookup_settled bytes a r r' e e' = one_held r r' (e ∙ sym e')
+bytes_lookup_settled bytes a r r' e e' = sym (tells_held r) ∙ ap held_by (e ∙ sym e') ∙ tells_held r'
+
+-- what each lookup goes by
+pub ruleset in_runs = (reached_low, no_runs, beyond_slices, refused)
+
+pub ruleset in_sixes = (reached_low, no_bytes, no_sixes, sixes_accepted, bytes_refused, bytes_held)

@@ -85,3 +85,6 @@ module _ {at : ℕ → ℕ} {n a turns place low high last left : ℕ} (r : Reac
           stays : (b : Bool) → low ≡ place → h.high ≡ cond b low place + 1 → h.high ≡ high
           stays true l g = omega (arith, close)
           stays false l g = omega (arith, close)
+
+-- what the bounds of halving over run bytes go by
+pub ruleset reaching = (reaching_bounds, ltb-true)

@@ -1,14 +1,13 @@
 -- Rule 7.4: a run lookup returns the hop at the place low where halving ends, the last address of the run found, and how many probes it
 -- made. Rule 7.8: the lookup over run bytes returns the hop and the last address.
 -- Assumes nothing.
-use Rattle.std.specs.Prelude.{cond, not, ◌||◌, List, [], ◌∷◌, ℕ, ◌-◌, ◌/◌, ◌%◌, min, length, get_or, ltb, eqb}
-use Rattle.ground.specs.Numbers.{Check, check, outcome, done, ill_formed}
+use Rattle.std.specs.Prelude.{cond, not, ◌||◌, List, [], ◌∷◌, ℕ, ◌-◌, ◌/◌, ◌%◌, min, length, get_or, ltb, eqb, Result, Ok, Err}
+use Rattle.ground.specs.declared.Refusal.{Refusal}
+use Rattle.ground.specs.Numbers.{Check, check, outcome, number_of, done, ill_formed}
 use Rattle.halving.specs.Halving.{Halved, halving}
 use Rattle.cidr.specs.Prefix.{dotted}
 use Rattle.lookup.specs.declared.Probed.{Probed}
-use Rattle.lookup.specs.declared.Probed.TheVariants as P
 use Rattle.lookup.specs.declared.Held.{Held}
-use Rattle.lookup.specs.declared.Held.TheVariants as H
 use Rattle.runs.specs.Table.{RunsLent}
 use Rattle.lookup.specs.Bytes.{start_at, hop_at}
 
@@ -28,9 +27,9 @@ abbrev pub probed : ℕ → ℕ → ℕ → ℕ → RunLookupOutcome
 probed n h l p = record { number = n; hop = h; last = l; probes = p }
 
 -- the same, read from the code's answer
-abbrev pub run_lookup_gave : Probed → RunLookupOutcome
-run_lookup_gave (P.Hop h l p) = probed done h l p
-run_lookup_gave P.IllFormed = probed ill_formed 0 0 0
+abbrev pub run_lookup_gave : Result Probed Refusal → RunLookupOutcome
+run_lookup_gave (Ok r) = probed done r.hop r.last r.probes
+run_lookup_gave (Err e) = probed (number_of e) 0 0 0
 
 -- Rule 7.3: halving over the starts of a lent table.
 unfoldable pub in_slices : ℕ → List ℕ → ℕ → Halved
@@ -57,9 +56,9 @@ abbrev pub held : ℕ → ℕ → ℕ → BytesLookupOutcome
 held n h l = record { number = n; hop = h; last = l }
 
 -- the same, read from the code's answer
-abbrev pub bytes_lookup_gave : Held → BytesLookupOutcome
-bytes_lookup_gave (H.Hop h l) = held done h l
-bytes_lookup_gave H.IllFormed = held ill_formed 0 0
+abbrev pub bytes_lookup_gave : Result Held Refusal → BytesLookupOutcome
+bytes_lookup_gave (Ok r) = held done r.hop r.last
+bytes_lookup_gave (Err e) = held (number_of e) 0 0
 
 -- Rule 7.8: halving over the starts that run bytes give, six bytes a run.
 unfoldable pub in_bytes : List ℕ → ℕ → Halved

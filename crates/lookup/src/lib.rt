@@ -8,11 +8,15 @@ ghost use Rattle.lookup.specs.Bytes.{start_at, hop_at};
 ghost use Rattle.lookup.specs.Lookup.{last_of, run_lookup_gave, run_lookup, bytes_lookup_gave, bytes_lookup};
 ghost use Rattle.lookup.specs.Inside.Reached.{ReachedBy};
 
-// What a run lookup gives: the hop, the last address of the run found and the number of probes, or 11.
-#[derive(Clone, Copy)]
-pub enum Probed {
-    Hop { hop: u16, last: u32, probes: usize },
-    IllFormed,
+use ground::Refusal;
+use std::hint::select_unpredictable;
+
+// What a run lookup gives: the hop, the last address of the run found and the number of probes.
+#[derive(Clone, Copy, Debug, PartialEq, Eq)]
+pub struct Probed {
+    pub hop: u16,
+    pub last: u32,
+    pub probes: usize,
 }
 
 // Rule 7.4: 255.255.255.255, where the last run ends.
@@ -27,6 +31,7 @@ struct Reached {
 }
 
 // Rule 7.4: the last address of the run before the place high.
+#[tactic(auto, unfolding(crate::specs::Lookup::last_of))]
 fn last_before(n: usize, starts: &[u32], high: usize) -> u32
     requires { (n ≤ length starts.now) × (high ≤ n) × (high < n → 0 < get_or starts.now high 0) }
     ensures { result ≡ last_of (λ i. get_or starts.now i 0) n high }
@@ -37,18 +42,17 @@ fn last_before(n: usize, starts: &[u32], high: usize) -> u32
     starts[high] - 1
 }
 
-// Rules 7.3 and 7.4: halving over the starts of a slice.
+// Rules 7.3 and 7.4: halving over the starts of a slice. Turns are counted down: counted up they compile to a slower loop.
+#[tactic(auto, using(halving::proofs::Turning::turning_start, halving::proofs::Turning::turning_bounds))]
 fn in_slices(n: usize, starts: &[u32], a: u32) -> Reached
     requires { (0 < n) × (n ≤ length starts.now) }
     ensures { ReachedBy (λ i. get_or starts.now i 0) n a result.low result.last result.probes }
 {
     let turns = halving::turns(n);
     let mut s = halving::whole(n);
-    let mut left = turns;
-    while 0 < left {
+    for _ in (0..turns).rev() {
         let place = s.place;
         s = halving::narrow(s, a < starts[place]);
-        left -= 1;
     }
     let place = s.place;
     let end = halving::end(s, turns, a < starts[place]);
@@ -60,71 +64,46 @@ fn in_slices(n: usize, starts: &[u32], a: u32) -> Reached
 }
 
 // Rules 7.1 to 7.4: lookup by halving over the first `n` runs of lent starts and hops; 11 for no runs, or more than a slice has.
-pub fn run_lookup(n: usize, starts: &[u32], hops: &[u16], a: u32) -> Probed
+#[tactic(auto, using(crate::proofs::LookupOutcomes::in_runs))]
+pub fn run_lookup(n: usize, starts: &[u32], hops: &[u16], a: u32) -> Result<Probed, Refusal>
     ensures { run_lookup_gave result ≡ run_lookup (runs_lent n starts.now hops.now) a }
 {
-    if n == 0 {
-        return Probed::IllFormed;
-    }
-    if starts.len() < n {
-        return Probed::IllFormed;
-    }
-    if hops.len() < n {
-        return Probed::IllFormed;
+    if n == 0 || starts.len().min(hops.len()) < n {
+        return Err(Refusal::IllFormed);
     }
     let found = in_slices(n, starts, a);
-    let low = found.low;
-    Probed::Hop {
-        hop: hops[low],
+    Ok(Probed {
+        hop: hops[found.low],
         last: found.last,
         probes: found.probes,
-    }
+    })
 }
 
-// Rule 7.7: a start of four bytes, the highest in front.
-fn start_of(b0: u8, b1: u8, b2: u8, b3: u8) -> u32
-    ensures { result ≡ b0 * 16777216 + b1 * 65536 + b2 * 256 + b3 }
-{
-    (b0 as u32) * 16777216 + (b1 as u32) * 65536 + (b2 as u32) * 256 + b3 as u32
-}
-
-// Rule 7.7: a hop of two bytes, the highest in front.
-fn hop_of(b0: u8, b1: u8) -> u16
-    ensures { result ≡ b0 * 256 + b1 }
-{
-    (b0 as u16) * 256 + b1 as u16
-}
-
-// Rule 7.8: the start that the bytes give run i.
+// Rules 7.7 and 7.8: the start that the bytes give run i: four bytes, the highest in front.
+#[tactic(auto, unfolding(crate::specs::Bytes::start_at))]
 fn start_at(bytes: &[u8], i: usize) -> u32
     requires { i < length bytes.now / 6 }
     ensures { result ≡ start_at bytes.now i }
 {
     let at = i * 6;
-    start_of(bytes[at], bytes[at + 1], bytes[at + 2], bytes[at + 3])
+    u32::from_be_bytes([bytes[at], bytes[at + 1], bytes[at + 2], bytes[at + 3]])
 }
 
-// Rule 7.8: its hop.
+// Rules 7.7 and 7.8: its hop: two bytes, the highest in front.
+#[tactic(auto, unfolding(crate::specs::Bytes::hop_at))]
 fn hop_at(bytes: &[u8], i: usize) -> u16
     requires { i < length bytes.now / 6 }
     ensures { result ≡ hop_at bytes.now i }
 {
     let at = i * 6;
-    hop_of(bytes[at + 4], bytes[at + 5])
+    u16::from_be_bytes([bytes[at + 4], bytes[at + 5]])
 }
 
-// What a lookup over run bytes gives: the hop and the last address of the run found, or 11.
-#[derive(Clone, Copy)]
-pub enum Held {
-    Hop { hop: u16, last: u32 },
-    IllFormed,
-}
-
-// One of two addresses, by a conditional move.
-fn pick(first: bool, x: u32, y: u32) -> u32
-    ensures { result ≡ cond first x y }
-{
-    if first { x } else { y }
+// What a lookup over run bytes gives: the hop and the last address of the run found.
+#[derive(Clone, Copy, Debug, PartialEq, Eq)]
+pub struct Held {
+    pub hop: u16,
+    pub last: u32,
 }
 
 // Rule 7.4: the last address before high. Where `above` says that a start is above the address, high comes down to its place, and else what
@@ -139,6 +118,7 @@ fn lowered(above: bool, start: u32, last: u32) -> u32
 // Rule 7.8: halving over the starts of `n` runs of bytes. The last address before high is kept beside high, so that no start need be put
 // together again, and so that the compiler makes no branch of the choices (docs/DECISIONS.md, "Halving without a branch"). At first high
 // is n.
+#[tactic(auto, using(crate::proofs::Reaching::reaching))]
 fn in_bytes(n: usize, bytes: &[u8], a: u32) -> Reached
     requires { (0 < n) × (n ≡ length bytes.now / 6) }
     ensures { ReachedBy (start_at bytes.now) n a result.low result.last result.probes }
@@ -146,36 +126,31 @@ fn in_bytes(n: usize, bytes: &[u8], a: u32) -> Reached
     let turns = halving::turns(n);
     let mut s = halving::whole(n);
     let mut last = LAST_ADDRESS;
-    let mut left = turns;
-    while 0 < left {
+    for _ in (0..turns).rev() {
         let start = start_at(bytes, s.place);
         s = halving::narrow(s, a < start);
         last = lowered(a < start, start, last);
-        left -= 1;
     }
     let start = start_at(bytes, s.place);
     let end = halving::end(s, turns, a < start);
     Reached {
         low: end.low,
-        last: pick(s.low < s.place, lowered(a < start, start, last), last),
+        last: select_unpredictable(s.low < s.place, lowered(a < start, start, last), last),
         probes: end.probes,
     }
 }
 
 // Rule 7.8: the same lookup over run bytes, six a run; 11 for no bytes, or a number of bytes that isn't a multiple of 6.
-pub fn bytes_lookup(bytes: &[u8], a: u32) -> Held
+#[tactic(auto, using(crate::proofs::LookupOutcomes::in_sixes))]
+pub fn bytes_lookup(bytes: &[u8], a: u32) -> Result<Held, Refusal>
     ensures { bytes_lookup_gave result ≡ bytes_lookup bytes.now a }
 {
-    if bytes.len() == 0 {
-        return Held::IllFormed;
+    if bytes.is_empty() || bytes.len() % 6 != 0 {
+        return Err(Refusal::IllFormed);
     }
-    if bytes.len() % 6 != 0 {
-        return Held::IllFormed;
-    }
-    let n = bytes.len() / 6;
-    let found = in_bytes(n, bytes, a);
-    Held::Hop {
+    let found = in_bytes(bytes.len() / 6, bytes, a);
+    Ok(Held {
         hop: hop_at(bytes, found.low),
         last: found.last,
-    }
+    })
 }

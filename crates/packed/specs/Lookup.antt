@@ -1,12 +1,11 @@
 -- Rules 9.10 to 9.13: packed lookup goes from the last 16 bits of an address to a block, from the block to its word, and from there to the
 -- place of the hop. It returns 19 for a width above 16, and if it would read outside a slice.
 -- Assumes nothing.
-use Rattle.std.specs.Prelude.{◌||◌, List, [], ◌∷◌, ℕ, ◌+◌, ◌-◌, ◌/◌, ◌%◌, ◌^◌, length, get_or, leb, ltb, eqb}
+use Rattle.std.specs.Prelude.{◌||◌, Result, List, [], ◌∷◌, ℕ, ◌+◌, ◌-◌, ◌/◌, ◌%◌, ◌^◌, length, get_or, leb, ltb, eqb}
 use Rattle.std.specs.Int.Count.{ones}
 use Rattle.ground.specs.Numbers.{Check, check, outcome, done, outside_packed}
-use Rattle.routes.specs.Lookup.{LookupOutcome, looked_up}
-use Rattle.packed.specs.declared.PackedHop.{PackedHop}
-use Rattle.packed.specs.declared.PackedHop.TheVariants.{Hop, Outside}
+use Rattle.ground.specs.declared.Refusal.{Refusal}
+use Rattle.routes.specs.Lookup.{LookupOutcome, looked_up, lookup_gave}
 
 -- Rule 9.11: the block of an address is its last 16 bits, divided by the size of a block.
 unfoldable pub block_of : ℕ → ℕ → ℕ
@@ -45,6 +44,5 @@ unfoldable pub packed_lookup : SegmentLent → ℕ → LookupOutcome
 packed_lookup s a = outcome (packed_checks s a) (λ n. looked_up n 0) (looked_up done (get_or s.hops (past_place s a - 1) 0))
 
 -- the same, read from the code's answer
-abbrev pub packed_gave : PackedHop → LookupOutcome
-packed_gave (Hop h) = looked_up done h
-packed_gave Outside = looked_up outside_packed 0
+abbrev pub packed_gave : Result ℕ Refusal → LookupOutcome
+packed_gave = lookup_gave

@@ -1,21 +1,19 @@
 -- Where keys ascend, a key is listed exactly if it stands at its place (`in_at_place` of routes); and what a search for the place tells.
 -- Assumes nothing.
-use mathlib.Core.Path.{◌≡◌, sym, ◌∙◌}
-use mathlib.Core.Logic.{◌⊎◌, inl, inr}
-use mathlib.Core.Bool.{true, false}
+use mathlib.Core.Path.{◌≡◌, refl, sym, ◌∙◌}
+use mathlib.Core.Logic.{⊎_elim}
+use mathlib.Core.Bool.{true, false≢true}
 use mathlib.Core.List.{List}
 use Prim.Native.Nat.{ℕ, ◌<◌}
-use native.Mathlib.Omega.{arith}
 use lib.ListN.{length, get_or}
 use lib.Dec.{ltb}
 use borrow.Author.Tests.{ltb-true, eqb-true}
 use Rattle.ground.specs.Column.{ascends, is_in, lower}
-use Rattle.ground.proofs.Truth.{decided, cond_true, cond_false, and_left, and_right}
-use Rattle.routes.specs.declared.Place.{Place}
-use Rattle.routes.specs.declared.Place.TheVariants.{At, Missing}
+use Rattle.ground.proofs.Truth.{decided, and_left, and_right}
+use Rattle.std.specs.Prelude.{Result, Ok, Err, IsOk}
 use Rattle.routes.specs.Place.{place_in}
 use Rattle.routes.proofs.KeyPlace.{in_at_place}
-use Rattle.plan.specs.Found.{FoundIn}
+use Rattle.plan.specs.Found.{FoundIn, stands}
 
 module _ (keys : List ℕ) (k : ℕ) (a : ascends keys ≡ true) where
   -- a number that is in stands at its place
@@ -25,25 +23,16 @@ module _ (keys : List ℕ) (k : ℕ) (a : ascends keys ≡ true) where
   pub in_there : is_in k keys ≡ true → get_or keys (lower k keys) 0 ≡ k
   in_there e = eqb-true _ _ (and_right (ltb (lower k keys) (length keys)) _ (sym (in_at_place k keys a) ∙ e))
 
--- the two answers of a search for a key's place
-module _ (keys : List ℕ) (k at : ℕ) where
-  pub found_at : At at ≡ place_in keys k → FoundIn keys k (record { at = at; listed = true })
+-- what a search for a key's place answers
+module _ (keys : List ℕ) (k : ℕ) where
+  pub found_in : {f : Result ℕ ℕ} → f ≡ place_in keys k → FoundIn keys k f
   unfolding place_in
-  found_at e = go (decided (is_in k keys))
-    where
-      go : (is_in k keys ≡ true) ⊎ (is_in k keys ≡ false) → FoundIn keys k (record { at = at; listed = true })
-      go (inl t) = let z : ◌≡◌ {A = Place} (At at) (At (lower k keys)) = e ∙ cond_true _ _ t in record { at_is = cc; listed_is = sym t }
-      go (inr f) =
-          let z : ◌≡◌ {A = Place} (At at) (Missing (lower k keys)) = e ∙ cond_false _ _ f in
-          absurd (let o : ◌≡◌ {A = ℕ} 0 1 = cc in omega arith)
+  found_in e = ⊎_elim
+      (λ t. rw e (record { at_is = rw t refl; listed_is = rw t refl }))
+      (λ n. rw e (record { at_is = rw n refl; listed_is = rw n refl }))
+      (decided (is_in k keys))
 
-  pub found_missing : Missing at ≡ place_in keys k → FoundIn keys k (record { at = at; listed = false })
-  unfolding place_in
-  found_missing e = go (decided (is_in k keys))
-    where
-      go : (is_in k keys ≡ true) ⊎ (is_in k keys ≡ false) → FoundIn keys k (record { at = at; listed = false })
-      go (inl t) =
-          let z : ◌≡◌ {A = Place} (Missing at) (At (lower k keys)) = e ∙ cond_true _ _ t in
-          absurd (let o : ◌≡◌ {A = ℕ} 0 1 = cc in omega arith)
-      go (inr f) =
-          let z : ◌≡◌ {A = Place} (Missing at) (Missing (lower k keys)) = e ∙ cond_false _ _ f in record { at_is = cc; listed_is = sym f }
+-- where the key stands, the answer is Ok
+pub stands_ok : (f : Result ℕ ℕ) → stands f ≡ true → IsOk f
+stands_ok (Ok at) e = refl
+stands_ok (Err at) e = absurd (false≢true e)

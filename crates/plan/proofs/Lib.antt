@@ -1,7 +1,7 @@
 mod Rewriting
 mod Joining
 pub mod Edited
-mod Found
+pub mod Found
 mod OwnHop
 mod RowWritten
 mod NewTable

@@ -14,7 +14,7 @@ use lib.Dec.{ltb}
 use borrow.Author.Tests.{lt-ltb, le-ltb}
 use borrow.Rule.Slice.PartMut.{mid_of, put_mid}
 use Rattle.ground.specs.Slots.{written, rewritten}
-use Rattle.ground.specs.Column.{shifted}
+use Rattle.ground.specs.Column.{shifted, moved_to}
 use Rattle.plan.specs.declared.table.Splice.{Splice}
 use Rattle.within.specs.Seams.{one}
 use Rattle.plan.specs.Splice.{spliced, Splices}
@@ -54,7 +54,7 @@ first_put below (h ∷ t) rest c x q l = set_at below h (t ++ rest) c x q
 module _ {m net end n : ℕ} {s : Splice} (k : Splices m net end n s) (some : 0 < m) (xs : List ℕ) (room : n ≤ length xs)
     (fits : s.to + (n - s.past) ≤ length xs) where
   moved : shifted n s.past s.to xs ≡ take s.to xs ++ block n s xs
-  unfolding shifted rewritten
+  unfolding moved_to rewritten
   moved =
       let long : length (take s.to xs ++ take (n - s.past) (drop s.past xs)) ≡ s.to + (n - s.past)
       = simp (length-append, length-take, length-drop) (omega arith) in

@@ -19,9 +19,9 @@ use Rattle.routes.proofs.Change.{announced_length_new, announced_length_listed}
 use Rattle.routes.proofs.Columns.{slots_new, slots_listed, slots_withdrawn, announced_column_listed, listed_place_key}
 use Rattle.routes.proofs.Columns.{keys_of_rows, hops_of_rows, length_rows}
 use Rattle.runs.proofs.WholeList.{in_keys, in_hops}
-use Rattle.plan.specs.declared.hops.Found.{Found}
+use Rattle.std.specs.Prelude.{Result, Ok, Err}
 use Rattle.plan.specs.Edited.{edited_rows}
-use Rattle.plan.specs.Found.{FoundIn}
+use Rattle.plan.specs.Found.{FoundIn, place_of, stands}
 use Rattle.plan.proofs.Edited.{edited_withdrawn, edited_announced}
 
 -- where nothing is left to clear, rewriting is writing
@@ -59,7 +59,7 @@ module _ (k h : ℕ) (rows : List Row) (asc : ascending rows ≡ true) (count at
       (omega (arith, length-map (announced k h rows) f, announced_length_new k h rows t)))
 
 -- both columns of a list
-module _ (count : ℕ) (keys hops : List ℕ) (e : half_formed count keys hops ≡ true) (k h : ℕ) (found : Found)
+module _ (count : ℕ) (keys hops : List ℕ) (e : half_formed count keys hops ≡ true) (k h : ℕ) (found : Result ℕ ℕ)
     (w : FoundIn (take count keys) k found) where
   abbrev rows : List Row
   rows = rows_of count keys hops
@@ -76,10 +76,10 @@ module _ (count : ℕ) (keys hops : List ℕ) (e : half_formed count keys hops �
   as_many : count ≡ length rows
   as_many = sym (length_rows count keys hops (in_keys count keys hops e) (in_hops count keys hops e))
 
-  is_listed : listed k rows ≡ found.listed
+  is_listed : listed k rows ≡ stands found
   is_listed = ap (is_in k) keys_are ∙ sym w.listed_is
 
-  placed : found.at ≡ lower k (keys_of rows)
+  placed : place_of found ≡ lower k (keys_of rows)
   placed = w.at_is ∙ ap (lower k) (sym keys_are)
 
   -- the slots of the list after the edit
@@ -87,27 +87,32 @@ module _ (count : ℕ) (keys hops : List ℕ) (e : half_formed count keys hops �
   Left keys' hops' =
       (keys' ≡ rewritten (keys_of (edited_rows k h rows)) count keys) × (hops' ≡ rewritten (hops_of (edited_rows k h rows)) count hops)
 
-  pub row_out : h ≡ 0 → found.listed ≡ true → Left (removed_at count found.at keys) (removed_at count found.at hops)
-  row_out z t = rw (edited_withdrawn k h rows z) (
-    column_out k h rows asc count found.at as_many placed (λ r. r.key) keys (sym keys_are) (is_listed ∙ t),
-    column_out k h rows asc count found.at as_many placed (λ r. r.hop) hops (sym hops_are) (is_listed ∙ t),
-  )
-
-  module _ (some : h ≡ 0 → ⊥) where
-    pub row_set : found.listed ≡ true → Left keys (set hops found.at h)
-    row_set t = rw (edited_announced k h rows some) (
-      sym (rewritten_same (keys_of (announced k h rows)) count keys (sym (keys_kept k h rows asc (is_listed ∙ t) ∙ keys_are))
-          (omega (arith, length-map (announced k h rows) (λ r. r.key), as_many, announced_length_listed k h rows asc (is_listed ∙ t)))),
-      column_set k h rows asc count found.at as_many placed (λ r. r.hop) hops (sym hops_are) (is_listed ∙ t),
+  module _ {at : ℕ} where
+    pub row_out : h ≡ 0 → found ≡ Ok at → Left (removed_at count at keys) (removed_at count at hops)
+    row_out z is = rw (edited_withdrawn k h rows z) (
+      column_out k h rows asc count at as_many (at_is is) (λ r. r.key) keys (sym keys_are) (is_listed ∙ ap stands is),
+      column_out k h rows asc count at as_many (at_is is) (λ r. r.hop) hops (sym hops_are) (is_listed ∙ ap stands is),
     )
+      where
+        at_is : found ≡ Ok at → at ≡ lower k (keys_of rows)
+        at_is e = sym (ap place_of e) ∙ placed
 
-    pub row_in : found.listed ≡ false → length (edited_rows k h rows) ≤ list_room keys hops
-        → Left (inserted_at count found.at k keys) (inserted_at count found.at h hops)
-    unfolding list_room
-    row_in t room =
-        let new = is_listed ∙ t in
-        let more = ap length (edited_announced k h rows some) ∙ announced_length_new k h rows new in
-        rw (edited_announced k h rows some) (
-          column_in k h rows asc count found.at as_many placed (λ r. r.key) keys (sym keys_are) new (omega (arith, as_many)),
-          column_in k h rows asc count found.at as_many placed (λ r. r.hop) hops (sym hops_are) new (omega (arith, as_many)),
-        )
+    module _ (some : h ≡ 0 → ⊥) where
+      pub row_set : found ≡ Ok at → Left keys (set hops at h)
+      row_set is = let t = is_listed ∙ ap stands is in rw (edited_announced k h rows some) (
+        sym (rewritten_same (keys_of (announced k h rows)) count keys (sym (keys_kept k h rows asc t ∙ keys_are))
+            (omega (arith, length-map (announced k h rows) (λ r. r.key), as_many, announced_length_listed k h rows asc t))),
+        column_set k h rows asc count at as_many (sym (ap place_of is) ∙ placed) (λ r. r.hop) hops (sym hops_are) t,
+      )
+
+      pub row_in : found ≡ Err at → length (edited_rows k h rows) ≤ list_room keys hops
+          → Left (inserted_at count at k keys) (inserted_at count at h hops)
+      unfolding list_room
+      row_in is room =
+          let new = is_listed ∙ ap stands is in
+          let at_is = sym (ap place_of is) ∙ placed in
+          let more = ap length (edited_announced k h rows some) ∙ announced_length_new k h rows new in
+          rw (edited_announced k h rows some) (
+            column_in k h rows asc count at as_many at_is (λ r. r.key) keys (sym keys_are) new (omega (arith, as_many)),
+            column_in k h rows asc count at as_many at_is (λ r. r.hop) hops (sym hops_are) new (omega (arith, as_many)),
+          )

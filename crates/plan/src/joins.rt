@@ -17,7 +17,7 @@ fn joint_before(starts: &[u32], rhops: &[u16], net: u64, hop: u16) -> Joint
     requires { OldTable starts.now rhops.now × (net < 4294967296) }
     ensures { Jointed starts.now rhops.now net hop result }
 {
-    let place = halving::column32::lower(starts, net);
+    let place = halving::lower(starts, net);
     if net == 0 {
         return Joint {
             from: place,
@@ -57,7 +57,7 @@ pub fn seams(starts: &[u32], rhops: &[u16], net: u64, end: u64, middle: Middle) 
     ensures { Seamed starts.now rhops.now net end middle result }
 {
     let joint = joint_before(starts, rhops, net, middle.first);
-    let past = halving::column32::lower(starts, end + 1);
+    let past = halving::lower(starts, end + 1);
     let hop = rhops[past - 1];
     let to = block_slot(joint.from + middle.runs, end, hop, middle.last);
     Splice {

@@ -1,42 +1,36 @@
-// Text on standard output: numbers, addresses, prefixes and run tables, for `figures`. No contract can say what a program wrote; the
-// program's stored output tests it. A write that fails ends what is written, and its error is returned.
+// Text on standard output for `figures`: addresses, prefixes and run tables. No contract can say what a program wrote; the program's stored
+// output tests it. A write that fails ends what is written, and its error is returned.
 #![tactic(auto)]
 
-use std::io;
+use std::{fmt, io};
 
-// Some bytes as they are.
-pub fn text(rt: &impl Print, bytes: &[u8]) -> io::Result<()> {
-    rt.write_all(bytes)
+// An address, which is written as a.b.c.d.
+#[derive(Clone, Copy)]
+pub struct Address(pub u32);
+
+impl fmt::Display for Address {
+    fn fmt<W: fmt::Write>(&self, f: &mut fmt::Formatter<W>) -> fmt::Result {
+        let [first, second, third, last] = self.0.to_be_bytes();
+        write!(f, "{first}.{second}.{third}.{last}")
+    }
 }
 
-// A number in decimal.
-pub fn number(rt: &impl Print, n: u64) -> io::Result<()> {
-    rt.print(n)
-}
+// A prefix, by its key, which is written as a.b.c.d/len.
+#[derive(Clone, Copy)]
+pub struct Prefix(pub u64);
 
-// A name, a space, a number and an LF.
-pub fn line(rt: &impl Print, name: &[u8], n: u64) -> io::Result<()> {
-    text(rt, name)?;
-    println!(rt; " {n}")
-}
-
-// An address as a.b.c.d.
-pub fn address(rt: &impl Print, a: u32) -> io::Result<()> {
-    let [first, second, third, last] = a.to_be_bytes();
-    print!(rt; "{first}.{second}.{third}.{last}")
-}
-
-// A key as a.b.c.d/len.
-pub fn prefix(rt: &impl Print, key: u64) -> io::Result<()> {
-    address(rt, (key / 64 % 4294967296) as u32)?;
-    let len = key % 64;
-    print!(rt; "/{len}")
+impl fmt::Display for Prefix {
+    fn fmt<W: fmt::Write>(&self, f: &mut fmt::Formatter<W>) -> fmt::Result {
+        let network = Address((self.0 / 64 % 4294967296) as u32);
+        let len = self.0 % 64;
+        write!(f, "{network}/{len}")
+    }
 }
 
 // An address, a space, a hop and an LF.
 pub fn answer(rt: &impl Print, a: u32, hop: u16) -> io::Result<()> {
-    address(rt, a)?;
-    println!(rt; " {hop}")
+    let address = Address(a);
+    println!(rt; "{address} {hop}")
 }
 
 // The first `count` runs of a table, a line a run, as far as both slices have them.

@@ -2,31 +2,30 @@
 -- enough; the imported list is well-formed; and its at most 1,024 rows make at most 2,049 runs.
 -- Assumes nothing.
 use mathlib.Core.Path.{◌≡◌, refl, sym, ap, ◌∙◌}
-use mathlib.Core.Logic.{◌⊎◌, ⊎_elim}
 use mathlib.Core.Bool.{true, false}
 use mathlib.Core.List.{List}
 use Prim.Native.Nat.{ℕ, ◌≤◌, ◌<◌}
 use native.Mathlib.Omega.{arith}
 use lib.ListN.{length, take}
 use borrow.Author.Tests.{lt-ltb, le-ltb}
-use denote.Enum.Declared.{tag_of}
 use Rattle.ground.specs.Numbers.{done}
 use Rattle.ground.specs.Slots.{written}
+use Rattle.ground.proofs.Numbers.{number_not_done}
 use Rattle.ground.proofs.Slots.{length_written, take_written}
+use Rattle.ground.proofs.Truth.{never_both}
 use Rattle.routes.specs.Row.{Row, list_lent, rows_of, list_room}
 use Rattle.routes.specs.Plain.{plain}
 use Rattle.routes.specs.WellFormed.{well_formed, formed}
 use Rattle.routes.proofs.Columns.{length_rows}
 use Rattle.rows.proofs.Splitting.{rows_at_most}
-use Rattle.feed.specs.declared.Imported.{Imported}
-use Rattle.feed.specs.declared.ImportEnd.{ImportEnd}
-use Rattle.feed.specs.declared.ImportEnd.TheVariants.{Done, ReportShort}
-use Rattle.feed.specs.Import.{ImportLent, import_accepted, import, end_number, import_gave}
+use Rattle.feed.specs.declared.Counts.{Counts}
+use Rattle.feed.specs.Counts.{counts_of}
+use Rattle.feed.specs.Import.{ImportLent, row_numbers, import, import_gave}
 use Rattle.feed.proofs.Outcome.{import_long}
+use Rattle.feed.proofs.Settled.{gave_one}
 use Rattle.feed.proofs.Promise.{left_is_imported, left_well_formed}
-use Rattle.runs.specs.contracts.Built as built-as
-use Rattle.runs.specs.declared.Built.{Built}
-use Rattle.runs.specs.declared.Built.TheVariants.{Runs, IllFormed, NoRoom}
+use Rattle.std.specs.Prelude.{Result, Ok, Err, IsOk}
+use Rattle.ground.specs.declared.Refusal.{Refusal}
 use Rattle.runs.specs.Table.{run_starts, run_hops}
 use Rattle.runs.specs.Build.{BuildOutcome, slots_lent, built, build_gave, build, run_room}
 use Rattle.runs.specs.Inside.Rows.{build_rows}
@@ -39,29 +38,25 @@ use Rattle.digits.specs.Putting.{Put}
 use Rattle.program.specs.Inside.Answering.{answer_text, Taken}
 use Rattle.digits.proofs.Putting.{put_front}
 
-ended_done : (e : ImportEnd) → end_number e ≡ done → e ≡ Done
-ended_done Done n = refl
-ended_done ReportShort n = absurd (omega arith)
-
 -- an import of a feed that isn't too long into room for 1,024 rows
 module _ (feed : List ℕ) (l : ImportLent) (short : length feed ≤ longest_feed) (report : length l.report ≡ longest_feed)
     (keys : length l.keys ≡ program_room) (hops : length l.hops ≡ program_room)
-    (r : Imported) {keys' hops' report' : List ℕ} (g : import_gave r keys' hops' report' ≡ import feed l) where
+    (r : Result Counts Refusal) {keys' hops' report' : List ℕ} (g : import_gave r keys' hops' report' ≡ import feed l) where
   room_is : list_room l.keys l.hops ≡ program_room
   unfolding list_room
   room_is = rw (keys, hops)
 
-  accepted : import_gave r keys' hops' report' ≡ import_accepted (list_room l.keys l.hops) feed l
-  accepted = g ∙ import_long feed l (omega (arith, rows_at_most feed))
+  done_with : r ≡ Ok (counts_of (row_numbers (list_room l.keys l.hops) feed))
+  done_with = (gave_one (g ∙ import_long feed l (omega (arith, rows_at_most feed)))).0
 
-  pub import_done : r.end ≡ Done
-  import_done = ended_done r.end (ap (λ o. o.number) accepted)
+  pub import_done : IsOk r
+  import_done = rw done_with refl
 
-  pub import_taken : Taken feed r.counts keys' hops'
-  import_taken = record {
-    counts = ap (λ o. o.counts) accepted ∙ rw room_is;
-    list = left_is_imported feed l g import_done ∙ rw room_is;
-    well = left_well_formed feed l g import_done;
+  pub import_taken : (c : Counts) → r ≡ Ok c → Taken feed c keys' hops'
+  import_taken c e = record {
+    counts = let same : Ok c ≡ Ok (counts_of (row_numbers program_room feed)) = sym e ∙ (done_with ∙ rw room_is) in cc;
+    list = left_is_imported feed l g e ∙ rw room_is;
+    well = left_well_formed feed l g e;
   }
 
 -- the first n slots of two slices are a list's run table
@@ -72,11 +67,9 @@ pub record TableLeft (rows : List Row) (n : ℕ) (starts hops : List ℕ) : Type
   pub hops_are : take n hops ≡ run_hops rows
 
 -- a build that is done gave runs
-done_gave_runs : (b : Built) (starts hops : List ℕ) → (build_gave b starts hops).number ≡ done
-    → (tag_of built-as.the_type b ≡ 1) ⊎ (tag_of built-as.the_type b ≡ 2) → ⊥
-done_gave_runs (Runs n) starts hops e k = ⊎_elim (λ q. omega arith) (λ q. omega arith) k
-done_gave_runs IllFormed starts hops e k = omega arith
-done_gave_runs NoRoom starts hops e k = omega arith
+done_gave_runs : (b : Result ℕ Refusal) (starts hops : List ℕ) → (build_gave b starts hops).number ≡ done → IsOk b
+done_gave_runs (Ok n) starts hops e = refl
+done_gave_runs (Err x) starts hops e = absurd (never_both (rw e) (number_not_done x))
 
 -- a build of a well-formed list of at most 1,024 rows into room for 2,049 runs
 module _ (count : ℕ) (keys hops starts rhops : List ℕ) (w : well_formed count keys hops ≡ true) (few : length keys ≡ program_room)
@@ -107,12 +100,12 @@ module _ (count : ℕ) (keys hops starts rhops : List ℕ) (w : well_formed coun
       build_well false (list_lent count keys hops) (slots_lent starts rhops) w
       ∙ unfold build_rows in rw (le-ltb (run_room starts rhops) (length (run_starts rows)) in_room)
 
-  module _ (b : Built) (starts' rhops' : List ℕ)
+  module _ (b : Result ℕ Refusal) (starts' rhops' : List ℕ)
       (g : build_gave b starts' rhops' ≡ build (list_lent count keys hops) (slots_lent starts rhops)) where
-    pub never_refused : (tag_of built-as.the_type b ≡ 1) ⊎ (tag_of built-as.the_type b ≡ 2) → ⊥
+    pub never_refused : IsOk b
     never_refused = done_gave_runs b starts' rhops' (ap (λ (o : BuildOutcome). o.number) (g ∙ build_done))
 
-    pub table_left : {n : ℕ} → b ≡ Runs n → TableLeft (rows_of count keys hops) n starts' rhops'
+    pub table_left : {n : ℕ} → b ≡ Ok n → TableLeft (rows_of count keys hops) n starts' rhops'
     table_left {n} e = record {
       in_starts =
           let long = length_written (run_starts rows) starts (omega (arith, runs_few)) in

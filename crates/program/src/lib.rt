@@ -2,19 +2,16 @@
 // Texts are put one behind the other at places of a buffer, as in `digits::put`, and the whole always has room.
 #![tactic(auto)]
 
-ghost use Rattle.std.specs.Prelude.{◌≡◌, true, ◌≤◌, ◌<◌, length, take};
+ghost use Rattle.std.specs.Prelude.{◌≡◌, true, ◌≤◌, length};
 ghost use Rattle.routes.specs.Row.{rows_of};
 ghost use Rattle.routes.specs.WellFormed.{well_formed};
-ghost use Rattle.rows.specs.RowNumber.{other_names, row_names};
-ghost use Rattle.feed.specs.Counts.{rows_with};
 ghost use Rattle.digits.specs.Digits.{dotted_text};
-ghost use Rattle.program.specs.Program.{longest_feed, line_of, name_lines, count_lines, run_lines, program_gave, program};
+ghost use Rattle.program.specs.Program.{longest_feed, line_of, count_lines, run_lines, program_gave, program};
 ghost use Rattle.digits.specs.Putting.{Fits, Put};
 ghost use Rattle.program.specs.Inside.Answering.{table_lines, answer_text, Taken};
 
 use digits::put::{address, number};
-use feed::Counts;
-use runs::Built;
+use feed::{Counts, RowNumber};
 
 // Rule 13.1: the most bytes that a feed may have.
 pub const LONGEST_FEED: usize = 16384;
@@ -32,12 +29,9 @@ fn text(out: &mut [u8], at: usize, bytes: &[u8]) -> usize
     requires { Fits at bytes.now out.old }
     ensures { Put at bytes.now result out.old out.new }
 {
-    let mut i = 0;
-    while i < bytes.len() {
-        out[at + i] = bytes[i];
-        i += 1;
-    }
-    at + i
+    let after = at + bytes.len();
+    out[at..after].copy_from_slice(bytes);
+    after
 }
 
 // A name, a space, a number and an LF.
@@ -46,41 +40,31 @@ fn line(out: &mut [u8], at: usize, name: &[u8], n: u64) -> usize
     ensures { Put at (line_of name.now n) result out.old out.new }
 {
     let after = text(out, at, name);
-    out[after] = 32;
-    number(out, after + 1, n, 10)
+    out[after] = b' ';
+    number(out, after + 1, n, b'\n')
 }
 
-// Rule 13.3: the line of the rows that have a number, by the number's name.
-fn named(out: &mut [u8], at: usize, name: &[u8], number: u8, c: Counts) -> usize
-    requires number_in_bounds { number < length row_names }
-    requires fits { Fits at (line_of name.now (rows_with number c)) out.old }
-    ensures { Put at (line_of name.now (rows_with number c)) result out.old out.new }
-{
-    let n = number as usize;
-    line(out, at, name, c.of[n] as u64)
-}
-
-// Rule 13.3: the lines of the row numbers behind taken.
-fn others(out: &mut [u8], at: usize, c: Counts) -> usize
-    requires { Fits at (name_lines other_names c) out.old }
-    ensures { Put at (name_lines other_names c) result out.old out.new }
-{
-    let zeros = named(out, at, b"shape", feed::SHAPE, c);
-    let range = named(out, zeros, b"zeros", feed::ZEROS, c);
-    let host_bits = named(out, range, b"range", feed::RANGE, c);
-    let replaced = named(out, host_bits, b"hostbits", feed::HOST_BITS, c);
-    let no_room = named(out, replaced, b"replaced", feed::REPLACED, c);
-    named(out, no_room, b"noroom", feed::NO_ROOM_LEFT, c)
-}
+// Rule 13.3: the row numbers with the names that the program writes for them, in the order of their lines.
+const NAMES: [(&[u8], RowNumber); feed::ROW_NUMBERS] = [
+    (b"taken", RowNumber::Taken),
+    (b"shape", RowNumber::Shape),
+    (b"zeros", RowNumber::Zeros),
+    (b"range", RowNumber::Range),
+    (b"hostbits", RowNumber::HostBits),
+    (b"replaced", RowNumber::Replaced),
+    (b"noroom", RowNumber::NoRoomLeft),
+];
 
 // Rule 13.3: the lines of the counts.
-fn counts(out: &mut [u8], at: usize, c: Counts) -> usize
-    requires { Fits at (count_lines c) out.old }
-    ensures { Put at (count_lines c) result out.old out.new }
+fn counts(out: &mut [u8], from: usize, c: Counts) -> usize
+    requires { Fits from (count_lines c) out.old }
+    ensures { Put from (count_lines c) result out.old out.new }
 {
-    let taken = line(out, at, b"rows", c.rows as u64);
-    let shape = named(out, taken, b"taken", feed::TAKEN, c);
-    others(out, shape, c)
+    let mut at = line(out, from, b"rows", c.rows as u64);
+    for (name, number) in NAMES {
+        at = line(out, at, name, c.of[number as usize] as u64);
+    }
+    at
 }
 
 // Rule 13.4: the line of a run.
@@ -88,22 +72,19 @@ fn run(out: &mut [u8], at: usize, start: u32, hop: u16) -> usize
     requires { Fits at (line_of (dotted_text start) hop) out.old }
     ensures { Put at (line_of (dotted_text start) hop) result out.old out.new }
 {
-    let after = address(out, at, start as u64, 32);
-    number(out, after, hop as u64, 10)
+    let after = address(out, at, start as u64, b' ');
+    number(out, after, hop as u64, b'\n')
 }
 
-// Rule 13.4: the lines of the first `count` runs of a table.
-fn run_lines(out: &mut [u8], from: usize, count: usize, starts: &[u32], hops: &[u16]) -> usize
-    requires count_in_bounds { (count ≤ length starts.now) × (count ≤ length hops.now) }
-    requires fits { Fits from (run_lines (take count starts.now) (take count hops.now)) out.old }
-    ensures { Put from (run_lines (take count starts.now) (take count hops.now))
-        result out.old out.new }
+// Rule 13.4: the lines of the runs of a table.
+fn run_lines(out: &mut [u8], from: usize, starts: &[u32], hops: &[u16]) -> usize
+    requires paired { length starts.now ≡ length hops.now }
+    requires fits { Fits from (run_lines starts.now hops.now) out.old }
+    ensures { Put from (run_lines starts.now hops.now) result out.old out.new }
 {
     let mut at = from;
-    let mut i = 0;
-    while i < count {
-        at = run(out, at, starts[i], hops[i]);
-        i += 1;
+    for (start, hop) in starts.iter().zip(hops) {
+        at = run(out, at, *start, *hop);
     }
     at
 }
@@ -117,10 +98,8 @@ fn table(out: &mut [u8], at: usize, count: usize, keys: &[u64; ROWS], hops: &[u1
 {
     let mut starts = [0u32; RUNS];
     let mut rhops = [0u16; RUNS];
-    let Built::Runs(n) = runs::build(count, keys, hops, &mut starts, &mut rhops) else {
-        return at;
-    };
-    run_lines(out, at, n, &starts, &rhops)
+    let n = runs::build(count, keys, hops, &mut starts, &mut rhops).unwrap();
+    run_lines(out, at, &starts[..n], &rhops[..n])
 }
 
 // Rule 13.2: the import of a feed that isn't too long. Such a feed has at most 16,384 rows, so that the import is never refused.
@@ -129,8 +108,7 @@ fn taken(feed: &[u8], keys: &mut [u64; ROWS], hops: &mut [u16; ROWS]) -> Counts
     ensures { Taken feed.now result keys.new hops.new }
 {
     let mut report = [0u8; LONGEST_FEED];
-    let i = feed::import(feed, keys, hops, &mut report);
-    i.counts
+    feed::import(feed, keys, hops, &mut report).unwrap()
 }
 
 // Rules 13.2 to 13.4: what the program writes for a feed that isn't too long.
@@ -142,7 +120,7 @@ fn answer(feed: &[u8], out: &mut [u8; PROGRAM_TEXT]) -> usize
     let mut hops = [0u16; ROWS];
     let c = taken(feed, &mut keys, &mut hops);
     let at = counts(out, 0, c);
-    table(out, at, c.of[feed::TAKEN as usize], &keys, &hops)
+    table(out, at, c.of[RowNumber::Taken as usize], &keys, &hops)
 }
 
 // Rules 13.1 to 13.4: all that the program writes for a feed, at the front of a buffer that is always long enough.

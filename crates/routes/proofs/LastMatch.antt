@@ -6,20 +6,27 @@ use mathlib.Core.Logic.{⊎_elim}
 use mathlib.Core.Bool.{true, false, cond}
 use mathlib.Core.List.Memᴰ
 use mathlib.Core.List.{List, [], ◌∷◌}
-use Prim.Native.Nat.{ℕ, ◌+◌, ◌≤◌, ◌<◌}
-use native.Mathlib.Nat.{not-le_of_lt}
-use Rattle.ground.proofs.Truth.{decided, cond_true, cond_false}
-use Rattle.cidr.specs.Prefix.{holds}
+use Rattle.std.proofs.lemmas.List.{get_or-take}
+use Prim.Native.Nat.{ℕ, suc, ◌≤◌, ◌<◌}
+use native.Mathlib.Omega.{arith}
+use lib.ListN.{length, get_or, take}
+use lib.Seq.{length-take-le}
+use native.Mathlib.Nat.{not-le_of_lt, le_of_lt, le_refl}
+use Rattle.ground.specs.Column.{ascends}
+use Rattle.ground.proofs.Ascends.{ascends_at}
+use Rattle.ground.proofs.Truth.{decided, never_both, cond_true, cond_false}
+use Rattle.cidr.specs.Prefix.{holds, length_of}
 use Rattle.cidr.proofs.Prefix.{longer_later}
-use Rattle.routes.specs.Row.{Row, rows_of, list_room}
+use Rattle.routes.specs.Row.{Row, row, rows_of, list_room}
 use Rattle.routes.specs.WellFormed.{ascending, half_formed}
-use Rattle.routes.specs.Plain.{plain}
-use Rattle.routes.proofs.Row.{Has}
+use Rattle.routes.specs.Plain.{plain, NoneHolds, IsLastToHold}
+use Rattle.routes.proofs.Row.{Has, has_at}
 use Rattle.routes.proofs.WellFormed.{first_below, ascending_tail}
-use Rattle.routes.proofs.Plain.{NoMatch, Longest, plain_cases}
-use Rattle.routes.proofs.RowsOf.{row_at}
-use Rattle.routes.proofs.Rest.{rest, rest_start, rest_next, rest_end}
-use Rattle.routes.proofs.ListTest.{half_ascends}
+use Rattle.routes.proofs.Change.{Order, before, same, after, order}
+use Rattle.routes.proofs.Plain.{NoMatch, Longest, plain_cases, plain_longest, plain_no_match}
+use Rattle.routes.proofs.RowsOf.{row_at, row_there}
+use Rattle.routes.proofs.Columns.{length_rows, keys_of_rows}
+use Rattle.routes.proofs.ListTest.{half_room, half_ascends}
 
 -- the hop that a walk over the rows keeps: a row's own where the row holds the address, else the one it had
 abbrev pub kept_hop : ℕ → ℕ → Row → ℕ
@@ -64,18 +71,91 @@ module _ (a : ℕ) where
   plain_last rows asc =
       ⊎_elim (λ w. w.1 ∙ sym (last_none 0 rows w.0)) (λ w. w.2 ∙ sym (last_longest 0 rows asc w.0 w.1)) (plain_cases rows a)
 
--- the walk over a list: at each place the answer is what it would keep to the end from there
-module _ (count : ℕ) (keys hops : List ℕ) (a : ℕ) where
-  pub last_start : (i : ℕ) → i ≡ 0 → half_formed count keys hops ≡ true
-      → plain (rows_of count keys hops) a ≡ last_hop 0 a (rest count keys hops i)
-  last_start i z e = rw (z, rest_start) (plain_last a (rows_of count keys hops) (half_ascends count keys hops e))
+-- a listed row's place
+record Placed (rows : List Row) (r d : Row) : Type 0 where
+  at : ℕ
+  below : at < length rows
+  is : r ≡ get_or rows at d
 
-  module _ (h i : ℕ) where
-    pub last_step : {h' i' : ℕ} → i < count → count ≤ list_room keys hops → kept_hop h a (row_at keys hops i) ≡ h' → i + 1 ≡ i'
-        → last_hop h a (rest count keys hops i) ≡ last_hop h' a (rest count keys hops i')
-    unfolding last_hop
-    last_step l room e n = rw (← e, ← n, rest_next count keys hops i l room)
+has_place : (rows : List Row) (r d : Row) → Has r rows → Placed rows r d
+has_place [] r d m = absurd (Memᴰ.not-nil m)
+has_place (t ∷ ts) r d m =
+    ⊎_elim (λ q. record { at = 0; below = omega arith; is = q }) (λ n. more (has_place ts r d n)) (Memᴰ.cases_cons m)
+  where
+    more : Placed ts r d → Placed (t ∷ ts) r d
+    more w = record { at = suc w.at; below = omega arith; is = w.is }
 
-    pub last_end : count ≤ i → last_hop h a (rest count keys hops i) ≡ h
-    unfolding last_hop
-    last_end l = rw (rest_end count keys hops i l)
+module _ (count : ℕ) (keys hops : List ℕ) (formed : half_formed count keys hops ≡ true) where
+  within : (count ≤ length keys) × (count ≤ length hops)
+  unfolding list_room
+  within = let room = half_room count keys hops formed in (omega arith, omega arith)
+
+  there : (i : ℕ) → i < count → get_or (rows_of count keys hops) i (row 0 0) ≡ row_at keys hops i
+  there i l = row_there count keys hops i (row 0 0) l (omega (arith, within.0)) (omega (arith, within.1))
+
+  many : length (rows_of count keys hops) ≡ count
+  many = length_rows count keys hops within.0 within.1
+
+  rising : (i j : ℕ) → i < j → j < count → get_or keys i 0 < get_or keys j 0
+  unfolding ascending
+  rising i j l m =
+      let asc = subst (λ ks. ascends ks ≡ true) (keys_of_rows count keys hops within.0 within.1) (half_ascends count keys hops formed) in
+      let n = length-take-le count keys within.0 in
+      omega (arith, ascends_at (take count keys) asc i j l (omega arith), get_or-take count keys i 0 (omega arith), get_or-take count keys j 0 m)
+
+  pub taken : count ≡ length (take count keys)
+  taken = sym (length-take-le count keys within.0)
+
+  key_taken : (i : ℕ) → i < count → get_or (take count keys) i 0 ≡ get_or keys i 0
+  key_taken i l = get_or-take count keys i 0 l
+
+  module _ (a : ℕ) where
+    -- where no key holds the address the plain answer is 0
+    pub none_holds : NoneHolds (take count keys) a → 0 ≡ plain (rows_of count keys hops) a
+    none_holds none = sym (plain_no_match (rows_of count keys hops) a (λ r m. no r (has_place _ r (row 0 0) m)))
+      where
+        no : (r : Row) → Placed (rows_of count keys hops) r (row 0 0) → holds r.key a ≡ false
+        no r w =
+            let l : w.at < count = omega (arith, many) in
+            rw (w.is, there w.at l, ← key_taken w.at l) (none w.at (omega (arith, taken)))
+
+    module _ (at : ℕ) (last : IsLastToHold (take count keys) a at) where
+      at_below : at < count
+      at_below = omega (arith, taken, last.0)
+
+      pub at_hop : at < length hops
+      at_hop = omega (arith, at_below, within.1)
+
+      here : holds (get_or keys at 0) a ≡ true
+      here = sym (ap (λ k. holds k a) (key_taken at at_below)) ∙ last.1
+
+      -- else it is the hop of the last row that holds it
+      pub last_holds : get_or hops at 0 ≡ plain (rows_of count keys hops) a
+      last_holds =
+          sym (plain_longest (rows_of count keys hops) a (half_ascends count keys hops formed) (row_at keys hops at) record {
+            listed =
+                subst (λ r. Has r (rows_of count keys hops)) (there at at_below)
+                (has_at (rows_of count keys hops) at (row 0 0) (omega (arith, many, at_below)));
+            matches = here;
+            longest = λ s m e. longer s (has_place _ s (row 0 0) m) e;
+          })
+        where
+          longer : (s : Row) → Placed (rows_of count keys hops) s (row 0 0) → holds s.key a ≡ true
+              → length_of s.key ≤ length_of (get_or keys at 0)
+          longer s w e = go (order w.at at)
+            where
+              k : w.at < count
+              k = omega (arith, many)
+
+              is : s.key ≡ get_or keys w.at 0
+              is = ap (λ r. r.key) (w.is ∙ there w.at k)
+
+              held : holds (get_or keys w.at 0) a ≡ true
+              held = rw is at e
+
+              go : Order w.at at → length_of s.key ≤ length_of (get_or keys at 0)
+              go (before m) =
+                  subst (λ x. length_of x ≤ length_of (get_or keys at 0)) (sym is)
+                  (le_of_lt (longer_later (get_or keys w.at 0) (get_or keys at 0) a (rising w.at at m at_below) held here))
+              go (same q) = rw (is, q) (le_refl _)
+              go (after m) = never_both (rw (← key_taken w.at k) at held) (last.2 w.at m (omega (arith, k, taken)))

@@ -115,3 +115,6 @@ module _ (count : ℕ) (keys hops : List ℕ) where
           pub passes_next : row_passes half (row_at keys hops i) ≡ true → get_or keys i 0 < get_or keys (i + 1) 0
               → pass_from half count keys hops i ≡ pass_from half count keys hops (i + 1)
           passes_next e lt = passes e (next ∙ lt-ltb _ _ lt)
+
+-- what each way through `rows_ok` goes by
+pub ruleset walk = (walk_start, walk_end, row_fails, key_fails, passes_next, passes_last)

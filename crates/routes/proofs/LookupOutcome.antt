@@ -4,18 +4,21 @@ use mathlib.Core.Path.{◌≡◌, refl, sym, ap, ◌∙◌}
 use mathlib.Core.Bool.{Bool, true, false, not, cond}
 use mathlib.Core.List.{[], ◌∷◌}
 use Prim.Native.Nat.{ℕ}
-use native.Mathlib.Omega.{arith}
+use lib.Dec.{eqb}
+use Rattle.std.proofs.Common.{Result, Ok, Err}
+use Rattle.ground.proofs.Truth.{never_both}
+use Rattle.ground.proofs.Numbers.{number_not_done, one_number}
 use Rattle.ground.specs.Numbers.{check, first_fault, outcome, done, ill_formed}
-use Rattle.routes.specs.declared.Looked.{Looked}
-use Rattle.routes.specs.declared.Looked.TheVariants.{Hop, IllFormed}
+use Rattle.ground.specs.declared.Refusal.{Refusal}
+use Rattle.ground.specs.declared.Refusal.TheVariants.{IllFormed}
 use Rattle.routes.specs.Row.{ListLent, rows_lent}
 use Rattle.routes.specs.WellFormed.{well_formed, half_formed, formed}
 use Rattle.routes.specs.Plain.{plain}
 use Rattle.routes.specs.Lookup.{LookupOutcome, looked_up, lookup_gave, lookup_checks, plain_lookup, half_checks, half_lookup}
 
 -- the hop of a formed list, and 11 for another
-abbrev pub answer : Bool → ℕ → Looked
-answer ok hop = cond ok (Hop hop) IllFormed
+abbrev pub answer : Bool → ℕ → Result ℕ Refusal
+answer ok hop = cond ok (Ok hop) (Err IllFormed)
 
 answered : (ok : Bool) (hop : ℕ)
     → lookup_gave (answer ok hop) ≡ outcome (check (not ok) ill_formed ∷ []) (λ n. looked_up n 0) (looked_up done hop)
@@ -23,7 +26,7 @@ unfolding first_fault outcome
 answered true hop = refl
 answered false hop = refl
 
-module _ (l : ListLent) (a : ℕ) (r : Looked) where
+module _ (l : ListLent) (a : ℕ) (r : Result ℕ Refusal) where
   pub plain_answered : r ≡ answer (formed false l.count l.keys l.hops) (plain (rows_lent l) a)
       → lookup_gave r ≡ plain_lookup l a
   unfolding formed plain_lookup lookup_checks
@@ -45,11 +48,11 @@ module _ (l : ListLent) (a : ℕ) where
   half_accepted e = rw e
 
 -- two answers with one outcome are the same
-one_answer : (r r' : Looked) → lookup_gave r ≡ lookup_gave r' → r ≡ r'
-one_answer (Hop h) (Hop h') e = ap (λ o. Hop o.hop) e
-one_answer (Hop h) IllFormed e = absurd (omega (arith, ap (λ (o : LookupOutcome). o.number) e))
-one_answer IllFormed (Hop h') e = absurd (omega (arith, ap (λ (o : LookupOutcome). o.number) e))
-one_answer IllFormed IllFormed e = refl
+one_answer : (r r' : Result ℕ Refusal) → lookup_gave r ≡ lookup_gave r' → r ≡ r'
+one_answer (Ok h) (Ok h') e = ap (λ o. Ok o.hop) e
+one_answer (Ok h) (Err f) e = never_both (ap (λ n. eqb n done) (sym (ap (λ (o : LookupOutcome). o.number) e))) (number_not_done f)
+one_answer (Err f) (Ok h) e = never_both (ap (λ n. eqb n done) (ap (λ (o : LookupOutcome). o.number) e)) (number_not_done f)
+one_answer (Err f) (Err f') e = ap Err (one_number f f' (ap (λ (o : LookupOutcome). o.number) e))
 
-pub lookup_settled : (o : LookupOutcome) (r r' : Looked) → lookup_gave r ≡ o → lookup_gave r' ≡ o → r ≡ r'
+pub lookup_settled : (o : LookupOutcome) (r r' : Result ℕ Refusal) → lookup_gave r ≡ o → lookup_gave r' ≡ o → r ≡ r'
 lookup_settled o r r' e e' = one_answer r r' (e ∙ sym e')

@@ -1,10 +1,9 @@
 -- Rule 2.13: plain lookup returns 11 for a list that isn't well-formed, and else 0 and the plain answer.
 -- Rule 11.8: half lookup does the same, but label 0 is no fault.
 -- Assumes nothing.
-use Rattle.std.specs.Prelude.{not, List, [], ◌∷◌, ℕ}
-use Rattle.ground.specs.Numbers.{Check, check, outcome, done, ill_formed}
-use Rattle.routes.specs.declared.Looked.{Looked}
-use Rattle.routes.specs.declared.Looked.TheVariants.{Hop, IllFormed}
+use Rattle.std.specs.Prelude.{not, List, [], ◌∷◌, ℕ, Result, Ok, Err}
+use Rattle.ground.specs.declared.Refusal.{Refusal}
+use Rattle.ground.specs.Numbers.{Check, check, outcome, number_of, done, ill_formed}
 use Rattle.routes.specs.Row.{ListLent, rows_lent}
 use Rattle.routes.specs.WellFormed.{well_formed, half_formed}
 use Rattle.routes.specs.Plain.{plain}
@@ -18,9 +17,9 @@ abbrev pub looked_up : ℕ → ℕ → LookupOutcome
 looked_up n h = record { number = n; hop = h }
 
 -- the same, read from the code's answer
-abbrev pub lookup_gave : Looked → LookupOutcome
-lookup_gave (Hop h) = looked_up done h
-lookup_gave IllFormed = looked_up ill_formed 0
+abbrev pub lookup_gave : Result ℕ Refusal → LookupOutcome
+lookup_gave (Ok h) = looked_up done h
+lookup_gave (Err e) = looked_up (number_of e) 0
 
 -- Rule 2.13: plain lookup.
 unfoldable pub lookup_checks : ListLent → List Check

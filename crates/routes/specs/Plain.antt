@@ -1,6 +1,6 @@
 -- Rule 2.12: the plain answer is the hop of the longest listed prefix that holds the address, and 0 if none holds it.
 -- Assumes nothing.
-use Rattle.std.specs.Prelude.{cond, List, [], ◌∷◌, ℕ, leb}
+use Rattle.std.specs.Prelude.{cond, false, true, List, [], ◌∷◌, ℕ, leb, length, slice_index, EachIndex, ◌≡◌, ◌<◌}
 use Rattle.std.proofs.Math.Option.{Option, none, some}
 use Rattle.cidr.specs.Prefix.{holds, length_of}
 use Rattle.routes.specs.Row.{Row, those}
@@ -27,3 +27,12 @@ hop_of (some r) = r.hop
 -- Rule 2.12: the plain answer.
 unfoldable pub plain : List Row → ℕ → ℕ
 plain rows a = hop_of (longest (matching a rows))
+
+-- the prefix of none of these keys holds the address
+abbrev pub NoneHolds : List ℕ → ℕ → Type 0
+NoneHolds keys a = EachIndex keys (λ i. holds (slice_index keys i) a ≡ false)
+
+-- the key at a place is the last of these whose prefix holds the address
+abbrev pub IsLastToHold : List ℕ → ℕ → ℕ → Type 0
+IsLastToHold keys a at =
+    (at < length keys) × (holds (slice_index keys at) a ≡ true) × ((i : ℕ) → at < i → i < length keys → holds (slice_index keys i) a ≡ false)

@@ -11,18 +11,18 @@ use native.Mathlib.Numerals.{add-one}
 use native.Mathlib.Omega.{arith}
 use lib.ListN.{length, get_or, take, drop, set, length-drop, length-set, get_or-append, drop_of_length-le}
 use lib.Seq.{drop-cons, drop-drop, take_all, take-suc-set, get_or_at}
-use lib.Dec.{leb, lit≤}
+use lib.Dec.{leb}
 use borrow.Author.Tests.{leb-true, le-leb, lt-leb}
 use Rattle.ground.proofs.Truth.{decided, never_both, cond_true, cond_false, and_right}
 use Rattle.rows.specs.declared.parse.Values.{Values}
-use Rattle.rows.specs.declared.parse.Digits.{Digits}
 use Rattle.rows.specs.declared.parse.NumberAt.{NumberAt}
-use Rattle.rows.specs.declared.parse.NumberAt.TheVariants.{Read, NotOfForm}
+use Rattle.std.specs.Prelude.{Some, None}
+use Rattle.std.specs.Prelude as code
 use Rattle.rows.specs.RowNumber.{row_shape}
-use Rattle.rows.specs.Reading.{bad, is_digit, digits, after_digits, is_number, begins, is_end, before, zero_in_front, Field, field}
+use Rattle.rows.specs.Reading.{bad, digits, after_digits, is_number, begins, is_end, before, zero_in_front, Field, field}
 use Rattle.rows.specs.Reading.{form, fields_of, has_zero_in_front, value_from, in_places, judged_numbers, values_of, judged, read_row}
 use Rattle.rows.specs.Inside.Fields.{digits_from, field_from, read_from}
-use Rattle.rows.proofs.Fields.{after_is, digits_within, digits_next, digits_value, zero_seen, zero_seen_lem}
+use Rattle.rows.proofs.Fields.{read, after_is, digits_within, digits_next, digits_value, zero_seen, zero_seen_lem}
 
 -- five values and the hop, in their places
 abbrev filled : List ℕ → ℕ → Values
@@ -41,21 +41,21 @@ in_places_lem v hop five =
     )
 
 -- The hop: 1 to 5 digits, after which the row ends.
-module _ (row : List ℕ) (at : ℕ) (h : at ≤ length row) (zeros : Bool) (v : List ℕ) (d : Digits) (e : d ≡ digits_from row at 5) where
+module _ (row : List ℕ) (at : ℕ) (h : at ≤ length row) (zeros : Bool) (v : List ℕ) where
   abbrev ds : List ℕ
   ds = digits (drop at row)
 
   within : at + length ds ≤ length row
   within = omega (arith, digits_within (drop at row), length-drop at row)
 
-  not_a_hop : (is_number 5 ds && is_end (after_digits (drop at row))) ≡ false → bad row_shape ≡ read_from zeros v (fields_of [] (drop at row))
+  not_a_hop : (is_number 5 ds && is_end (after_digits (drop at row))) ≡ false → read_from zeros v (fields_of [] (drop at row)) ≡ bad row_shape
   unfolding read_from fields_of
   not_a_hop f = rw f
 
-  pub hop_none : d.next ≡ at → bad row_shape ≡ read_from zeros v (fields_of [] (drop at row))
-  hop_none q = not_a_hop (rw (lt-leb 1 (length ds) (omega (arith, digits_next row at 5 d e))))
+  pub hop_none : (digits_from row at 5).next ≡ at → read_from zeros v (fields_of [] (drop at row)) ≡ bad row_shape
+  hop_none q = not_a_hop (rw (lt-leb 1 (length ds) (omega (arith, digits_next row at 5))))
 
-  pub hop_more : d.next < length row → bad row_shape ≡ read_from zeros v (fields_of [] (drop at row))
+  pub hop_more : (digits_from row at 5).next < length row → read_from zeros v (fields_of [] (drop at row)) ≡ bad row_shape
   hop_more q = not_a_hop (go (decided (is_number 5 ds)))
     where
       go : (is_number 5 ds ≡ true) ⊎ (is_number 5 ds ≡ false) → (is_number 5 ds && is_end (after_digits (drop at row))) ≡ false
@@ -65,12 +65,13 @@ module _ (row : List ℕ) (at : ℕ) (h : at ≤ length row) (zeros : Bool) (v :
             n,
             after_is (drop at row),
             drop-drop (length ds) at row,
-            drop-cons row (at + length ds) 0 (omega (arith, digits_next row at 5 d e)),
+            drop-cons row (at + length ds) 0 (omega (arith, digits_next row at 5)),
           )
       go (inr n) = rw n
 
-  pub hop_last : (d.next ≡ at → ⊥) → length row ≤ d.next → length v ≡ 5
-      → judged_numbers (zeros || zero_seen row at d.next) (filled v d.value) ≡ read_from zeros v (fields_of [] (drop at row))
+  pub hop_last : ((digits_from row at 5).next ≡ at → ⊥) → length row ≤ (digits_from row at 5).next → length v ≡ 5
+      → read_from zeros v (fields_of [] (drop at row))
+      ≡ judged_numbers (zeros || zero_seen row at (digits_from row at 5).next) (filled v (digits_from row at 5).value)
   unfolding read_from fields_of has_zero_in_front
   hop_last moved end five =
       rw (
@@ -80,21 +81,24 @@ module _ (row : List ℕ) (at : ℕ) (h : at ≤ length row) (zeros : Bool) (v :
         drop-drop (length ds) at row,
         drop_all,
         or-false,
-        zero_seen_lem row at d.next one (omega (arith, few, digits_next row at 5 d e)),
+        zero_seen_lem row at (digits_from row at 5).next one (omega (arith, few, digits_next row at 5)),
       )
-      (sym (ap (judged_numbers (zeros || zero_in_front ds)) (in_places_lem v (value_from 0 ds) five ∙ ap (filled v) value)))
+      (ap (judged_numbers (zeros || zero_in_front ds)) (in_places_lem v (value_from 0 ds) five ∙ ap (filled v) value))
     where
       few : length ds ≤ 5
-      few = omega (arith, digits_next row at 5 d e, within)
+      few = omega (arith, digits_next row at 5, within)
 
       one : 1 ≤ length ds
-      one = pos_of_ne-zero (λ z. moved (omega (arith, digits_next row at 5 d e)))
+      one = pos_of_ne-zero (λ z. moved (omega (arith, digits_next row at 5)))
 
       drop_all : drop (at + length ds) row ≡ []
-      drop_all = drop_of_length-le row {i = at + length ds} (omega (arith, digits_next row at 5 d e))
+      drop_all = drop_of_length-le row {i = at + length ds} (omega (arith, digits_next row at 5))
 
-      value : value_from 0 ds ≡ d.value
-      value = sym (digits_value row at 5 d e ∙ ap (value_from 0) (take_all 5 ds few))
+      value : value_from 0 ds ≡ (digits_from row at 5).value
+      value = sym (digits_value row at 5 ∙ ap (value_from 0) (take_all 5 ds few))
+
+-- what a row says whose first five numbers are read needs them
+pub ruleset hop_answers = (hop_none, hop_more, hop_last)
 
 fields_step : (m k : ℕ) (fs : List Field) (bs : List ℕ)
     → fields_of (field m k ∷ fs) bs
@@ -129,27 +133,29 @@ module _ (row : List ℕ) (at m k : ℕ) (h : at ≤ length row) (fs : List Fiel
     pub zero_is : z ≡ zero_in_front (digits (drop at row))
     pub next_in : next ≤ length row
 
-  pub not_of_form_none : field_from row at m k ≡ NotOfForm → fields_of (field m k ∷ fs) (drop at row) ≡ none
+  pub not_of_form_none : field_from row at m k ≡ None → fields_of (field m k ∷ fs) (drop at row) ≡ none
   unfolding field_from
   not_of_form_none e = go (decided test)
     where
       go : (test ≡ true) ⊎ (test ≡ false) → fields_of (field m k ∷ fs) (drop at row) ≡ none
       go (inl t) =
-          let z : ◌≡◌ {A = NumberAt} (Read (value_from 0 front) (zero_in_front front) (at + length front + 1)) NotOfForm = sym (cond_true _ _ t) ∙ e in
+          let z : ◌≡◌ {A = code.Option NumberAt} (read (value_from 0 front) (zero_in_front front) (at + length front + 1)) None = sym (cond_true _ _ t) ∙ e in
           absurd (let o : ◌≡◌ {A = ℕ} 0 1 = cc in omega arith)
       go (inr t) = fields_step m k fs (drop at row) ∙ cond_false _ _ t
 
-  pub read_steps : (value : ℕ) (z : Bool) (next : ℕ) → field_from row at m k ≡ Read value z next → FieldRead value z next
+  pub read_steps : (value : ℕ) (z : Bool) (next : ℕ) → field_from row at m k ≡ read value z next → FieldRead value z next
   unfolding field_from
   read_steps value z next e = go (decided test)
     where
       go : (test ≡ true) ⊎ (test ≡ false) → FieldRead value z next
       go (inl t) =
-          let same : ◌≡◌ {A = NumberAt} (Read (value_from 0 front) (zero_in_front front) (at + length front + 1)) (Read value z next) =
+          let same : ◌≡◌ {A = code.Option NumberAt} (read (value_from 0 front) (zero_in_front front) (at + length front + 1)) (read value z next) =
           sym (cond_true _ _ t) ∙ e in
-          let v : value_from 0 front ≡ value = cc in
-          let f : zero_in_front front ≡ z = cc in
-          let n : at + length front + 1 ≡ next = cc in
+          let r : ◌≡◌ {A = NumberAt} (record { value = value_from 0 front; zero = zero_in_front front; next = at + length front + 1 })
+          (record { value = value; zero = z; next = next }) = cc in
+          let v : value_from 0 front ≡ value = ap (λ x. x.value) r in
+          let f : zero_in_front front ≡ z = ap (λ x. x.zero) r in
+          let n : at + length front + 1 ≡ next = ap (λ x. x.next) r in
           let there : drop 1 behind ≡ drop next row = rw (after_is (drop at row), drop-drop (length front), drop-drop 1, n) in
           let more = begins_some behind (and_right (is_number m front) _ t) in
           record {
@@ -159,7 +165,7 @@ module _ (row : List ℕ) (at m k : ℕ) (h : at ≤ length row) (fs : List Fiel
             next_in = omega (arith, ap length (after_is (drop at row)), length-drop (length front) (drop at row), length-drop at row);
           }
       go (inr t) =
-          let never : ◌≡◌ {A = NumberAt} NotOfForm (Read value z next) = sym (cond_false _ _ t) ∙ e in
+          let never : ◌≡◌ {A = code.Option NumberAt} None (read value z next) = sym (cond_false _ _ t) ∙ e in
           absurd (let o : ◌≡◌ {A = ℕ} 0 1 = cc in omega arith)
 
 -- Where the loop over the five numbers stands: the row says what the numbers so far and the rest of the row say.
@@ -180,14 +186,14 @@ rowing_start row v e = record {
     go none = refl
     go (some ns) = refl
 
--- the digits and marks of the form, by their places
-abbrev pub mosts : List ℕ
-mosts = 3 ∷ 3 ∷ 3 ∷ 3 ∷ 2 ∷ []
+-- the numbers of the form by their places, as the code has them
+abbrev pub parts : List (ℕ × ℕ)
+parts = (3, 46) ∷ (3, 46) ∷ (3, 46) ∷ (3, 47) ∷ (2, 32) ∷ []
 
-abbrev pub marks : List ℕ
-marks = 46 ∷ 46 ∷ 46 ∷ 47 ∷ 32 ∷ []
+abbrev pub part_at : ℕ → ℕ × ℕ
+part_at i = get_or parts i (0, 0)
 
-form_at : (i : ℕ) → i < 5 → drop i form ≡ field (get_or mosts i 0) (get_or marks i 0) ∷ drop (i + 1) form
+form_at : (i : ℕ) → i < 5 → drop i form ≡ field (part_at i).0 (part_at i).1 ∷ drop (i + 1) form
 form_at zero l = refl
 form_at (suc zero) l = refl
 form_at (suc (suc zero)) l = refl
@@ -203,45 +209,23 @@ read_more z vs ds (some ns) = rw (append_assoc, or_assoc z (zero_in_front ds) (h
 
 module _ {row v : List ℕ} {zeros : Bool} {at i : ℕ} (s : Rowing row v zeros at i) (l : i < 5) where
   abbrev most : ℕ
-  most = get_or mosts i 0
+  most = (part_at i).0
 
   abbrev mark : ℕ
-  mark = get_or marks i 0
+  mark = (part_at i).1
 
-  pub rowing_not_of_form : field_from row at (get_or mosts i 0) (get_or marks i 0) ≡ NotOfForm → bad row_shape ≡ read_row row
+  pub rowing_not_of_form : field_from row at (part_at i).0 (part_at i).1 ≡ None → read_row row ≡ bad row_shape
   unfolding read_from
-  rowing_not_of_form e = sym (s.goes_on ∙ rw (form_at i l, not_of_form_none row at most mark s.within (drop (i + 1) form) e))
+  rowing_not_of_form e = s.goes_on ∙ rw (form_at i l, not_of_form_none row at most mark s.within (drop (i + 1) form) e)
 
-  pub rowing_more : (value : ℕ) (z : Bool) (next : ℕ) → field_from row at (get_or mosts i 0) (get_or marks i 0) ≡ Read value z next
-      → Rowing row (set v i value) (zeros || z) next (i + 1)
-  rowing_more value z next e =
-      let t = read_steps row at most mark s.within (drop (i + 1) form) value z next e in
+  pub rowing_more : {n : NumberAt} → field_from row at (part_at i).0 (part_at i).1 ≡ Some n
+      → Rowing row (set v i n.value) (zeros || n.zero) n.next (i + 1)
+  rowing_more {n} e =
+      let t = read_steps row at most mark s.within (drop (i + 1) form) n.value n.zero n.next e in
       record {
         within = t.next_in;
-        five = length-set v i value ∙ s.five;
+        five = length-set v i n.value ∙ s.five;
         goes_on =
             s.goes_on
-            ∙ rw (form_at i l, t.rest, read_more, ← t.value_is, ← t.zero_is, add-one, take-suc-set v i value (omega (arith, s.five)));
+            ∙ rw (form_at i l, t.rest, read_more, ← t.value_is, ← t.zero_is, add-one, take-suc-set v i n.value (omega (arith, s.five)));
       }
-
--- the five numbers have at most 5 digits, and no mark is a digit
-pub most_few : (i : ℕ) → i < 5 → get_or mosts i 0 ≤ 5
-most_few zero l = lit≤ tt
-most_few (suc zero) l = lit≤ tt
-most_few (suc (suc zero)) l = lit≤ tt
-most_few (suc (suc (suc zero))) l = lit≤ tt
-most_few (suc (suc (suc (suc zero)))) l = lit≤ tt
-most_few (suc (suc (suc (suc (suc i))))) l = absurd (omega arith)
-
-pub mark_no_digit : (i : ℕ) → i < 5 → is_digit (get_or marks i 0) ≡ false
-mark_no_digit zero l = refl
-mark_no_digit (suc zero) l = refl
-mark_no_digit (suc (suc zero)) l = refl
-mark_no_digit (suc (suc (suc zero))) l = refl
-mark_no_digit (suc (suc (suc (suc zero)))) l = refl
-mark_no_digit (suc (suc (suc (suc (suc i))))) l = absurd (omega arith)
-
-pub rowing_end : {row v : List ℕ} {zeros : Bool} {at i : ℕ} → Rowing row v zeros at i → i ≡ 5
-    → read_from zeros v (fields_of [] (drop at row)) ≡ read_row row
-rowing_end {row} {v} {zeros} {at} {i} s e =
-    sym (s.goes_on ∙ rw (e, take_all 5 v (omega (arith, s.five))))

@@ -7,10 +7,11 @@ use mathlib.Core.Option.{Option, none, some}
 use Prim.Native.Nat.{ℕ}
 use lib.Dec.{eqb}
 use denote.Ref.{Bor}
-use Rattle.rows.specs.declared.RowRead.{RowRead}
-use Rattle.rows.specs.declared.RowRead.TheVariants.{Good, Shape, Zeros, Range, HostBits}
-use Rattle.rows.specs.declared.NextRow.{NextRow}
-use Rattle.rows.specs.declared.NextRow.TheVariants.{Row, End}
+use Rattle.std.specs.Prelude.{Result, Ok, Err, Some, None}
+use Rattle.std.specs.Prelude as code
+use Rattle.rows.specs.declared.Row.{Row}
+use Rattle.rows.specs.declared.RowFault.{RowFault}
+use Rattle.rows.specs.declared.RowFault.TheVariants.{Shape, Zeros, Range, HostBits}
 use Rattle.rows.specs.declared.RowPulled.{RowPulled}
 use Rattle.rows.specs.declared.Reader.{Reader}
 use Rattle.rows.specs.RowNumber.{row_shape, row_zeros, row_range}
@@ -18,33 +19,33 @@ use Rattle.rows.specs.Reading.{Reading, good, bad, read_row, reading_of}
 use Rattle.rows.specs.Pull.{pull, next_reading, pull_gave, PulledBy}
 
 -- the answer that a reading came from
-answer_of : Reading → RowRead
-answer_of (good k h) = Good k h
-answer_of (bad n) = cond (eqb n row_shape) Shape (cond (eqb n row_zeros) Zeros (cond (eqb n row_range) Range HostBits))
+answer_of : Reading → Result Row RowFault
+answer_of (good k h) = Ok (record { key = k; hop = h })
+answer_of (bad n) = Err (cond (eqb n row_shape) Shape (cond (eqb n row_zeros) Zeros (cond (eqb n row_range) Range HostBits)))
 
-answer_of_reading : (r : RowRead) → answer_of (reading_of r) ≡ r
+answer_of_reading : (r : Result Row RowFault) → answer_of (reading_of r) ≡ r
 unfolding answer_of
-answer_of_reading (Good k h) = refl
-answer_of_reading Shape = refl
-answer_of_reading Zeros = refl
-answer_of_reading Range = refl
-answer_of_reading HostBits = refl
+answer_of_reading (Ok r) = refl
+answer_of_reading (Err Shape) = refl
+answer_of_reading (Err Zeros) = refl
+answer_of_reading (Err Range) = refl
+answer_of_reading (Err HostBits) = refl
 
 -- what one row says by itself
-pub read_row_settled : (row : List ℕ) (r r' : RowRead) → reading_of r ≡ read_row row → reading_of r' ≡ read_row row → r ≡ r'
+pub read_row_settled : (row : List ℕ) (r r' : Result Row RowFault) → reading_of r ≡ read_row row → reading_of r' ≡ read_row row → r ≡ r'
 read_row_settled row r r' e e' = sym (answer_of_reading r) ∙ (ap answer_of (e ∙ sym e') ∙ answer_of_reading r')
 
 -- what a pull finds, and its next place
-next_of : Option Reading → NextRow
-next_of none = End
-next_of (some x) = Row (answer_of x)
+next_of : Option Reading → code.Option (Result Row RowFault)
+next_of none = None
+next_of (some x) = Some (answer_of x)
 
-next_of_reading : (r : NextRow) → next_of (next_reading r) ≡ r
+next_of_reading : (r : code.Option (Result Row RowFault)) → next_of (next_reading r) ≡ r
 unfolding next_of
-next_of_reading (Row r) = ap Row (answer_of_reading r)
-next_of_reading End = refl
+next_of_reading (Some r) = ap Some (answer_of_reading r)
+next_of_reading None = refl
 
-abbrev pulled : NextRow → ℕ → RowPulled
+abbrev pulled : code.Option (Result Row RowFault) → ℕ → RowPulled
 pulled r n = record { row = r; next = n }
 
 pub pull_settled : (feed : List ℕ) (at : ℕ) (r r' : RowPulled) → pull_gave r ≡ pull feed at → pull_gave r' ≡ pull feed at → r ≡ r'
@@ -63,7 +64,7 @@ pub reader_new_settled : (feed : Bor (List ℕ)) (r r' : Reader)
     → (r.feed ≡ feed) × (r.place ≡ 0) → (r'.feed ≡ feed) × (r'.place ≡ 0) → r ≡ r'
 reader_new_settled feed r r' e e' = same_reader r r' (e.0 ∙ sym e'.0) (e.1 ∙ sym e'.1)
 
-pub reader_pull_settled : (was : Reader) (row row' : NextRow) (is is' : Reader)
+pub reader_pull_settled : (was : Reader) (row row' : code.Option (Result Row RowFault)) (is is' : Reader)
     → PulledBy was row is → PulledBy was row' is' → (row ≡ row') × (is ≡ is')
 reader_pull_settled was row row' is is' e e' =
     let same = pull_settled was.feed.now was.place (pulled row is.place) (pulled row' is'.place) e.gave e'.gave in

@@ -1,49 +1,26 @@
 -- A feed that isn't at its end has a first row, the bytes before its first LF or all of them, and the rows after that LF.
 -- Assumes nothing.
 use mathlib.Core.Path.{◌≡◌, refl, sym, ap, ◌∙◌}
+use mathlib.Core.Logic.{◌⊎◌, inl, inr}
 use mathlib.Core.Bool.{Bool, true, false, cond}
 use mathlib.Core.List.{List, [], ◌∷◌}
 use Prim.Native.Nat.{ℕ, suc, ◌+◌, ◌-◌, ◌≤◌, ◌<◌, zero-le, suc-le-suc}
 use native.Mathlib.Numerals.{add-one}
 use native.Mathlib.Omega.{arith}
-use lib.Dec.{eqb}
-use lib.ListN.{length, get_or, take, drop, drop_of_length-le, length-drop}
-use lib.Seq.{drop-cons, drop-drop}
-use borrow.Author.Tests.{eq-eqb, ne_eqb}
+use lib.Dec.{eqb, ltb}
+use lib.ListN.{length, take, drop, drop_of_length-le, length-drop}
+use lib.Seq.{drop-drop}
+use borrow.Author.Tests.{ltb-false}
+use Rattle.std.specs.List.{position_or_len}
+use Rattle.std.specs.Prelude.{Option, Some, None, unwrap_or}
+use Rattle.ground.proofs.Truth.{decided}
+use Rattle.std.proofs.lemmas.List.Recursion.{is_position_or_len}
 use Rattle.rows.specs.Rows.{LF, grown, rows_in, row_length}
 
--- the first row's length, from a place of the feed on
-module _ (feed : List ℕ) (n : ℕ) where
-  length_at_end : length feed ≤ n → row_length (drop n feed) ≡ 0
-  unfolding row_length
-  length_at_end e = rw (drop_of_length-le feed {i = n} e)
-
-  module _ (h : n < length feed) where
-    length_at_LF : get_or feed n 0 ≡ LF → row_length (drop n feed) ≡ 0
-    unfolding row_length
-    length_at_LF e = rw (drop-cons feed n 0 h, eq-eqb (get_or feed n 0) LF e)
-
-    length_past : (get_or feed n 0 ≡ LF → ⊥) → row_length (drop n feed) ≡ suc (row_length (drop (n + 1) feed))
-    unfolding row_length
-    length_past e = rw (add-one, drop-cons feed n 0 h, ne_eqb (get_or feed n 0) LF e)
-
--- Where the walk along a row stands: the row's end is the same from here.
-pub record Along (feed : List ℕ) (at end : ℕ) : Type 0 where
-  pub same_end : end + row_length (drop end feed) ≡ at + row_length (drop at feed)
-
-pub along_start : (feed : List ℕ) (at : ℕ) → Along feed at at
-along_start feed at = record { same_end = refl }
-
-module _ {feed : List ℕ} {at end : ℕ} (s : Along feed at end) where
-  pub along_end : length feed ≤ end → end ≡ at + row_length (drop at feed)
-  along_end e = omega (arith, s.same_end, length_at_end feed end e)
-
-  module _ (h : end < length feed) where
-    pub along_LF : get_or feed end 0 ≡ LF → end ≡ at + row_length (drop at feed)
-    along_LF e = omega (arith, s.same_end, length_at_LF feed end h e)
-
-    pub along_more : (get_or feed end 0 ≡ LF → ⊥) → Along feed at (end + 1)
-    along_more e = record { same_end = omega (arith, s.same_end, length_past feed end h e) }
+-- at the feed's end or past it the first row has no byte
+pub length_at_end : (feed : List ℕ) (n : ℕ) → length feed ≤ n → row_length (drop n feed) ≡ 0
+unfolding row_length
+length_at_end feed n e = rw (drop_of_length-le feed {i = n} e)
 
 row_length_le : (bs : List ℕ) → row_length bs ≤ length bs
 unfolding row_length
@@ -53,6 +30,25 @@ row_length_le (b ∷ bs) = go (eqb b LF) (row_length_le bs)
     go : (t : Bool) → row_length bs ≤ length bs → cond t 0 (suc (row_length bs)) ≤ suc (length bs)
     go true rec = zero-le
     go false rec = suc-le-suc rec
+
+-- the first row ends at its LF, or where the bytes end
+pub row_length_is : (bs : List ℕ) → row_length bs ≡ position_or_len (λ b. eqb b LF) bs
+unfolding row_length
+row_length_is = is_position_or_len row_length (λ b. eqb b LF) refl (λ b bs. grind arith)
+
+-- so a search for the LF finds it, and else the row is all of the bytes
+pub row_length_found : (bs : List ℕ) (o : Option ℕ)
+    → o ≡ cond (ltb (position_or_len (λ b. eqb b LF) bs) (length bs)) (Some (position_or_len (λ b. eqb b LF) bs)) None
+    → unwrap_or o (length bs) ≡ row_length bs
+row_length_found bs o e =
+    rw (e, row_length_is) (go (decided (ltb (position_or_len (λ b. eqb b LF) bs) (length bs))))
+  where
+    n : ℕ
+    n = position_or_len (λ b. eqb b LF) bs
+
+    go : (ltb n (length bs) ≡ true) ⊎ (ltb n (length bs) ≡ false) → unwrap_or (cond (ltb n (length bs)) (Some n) None) (length bs) ≡ n
+    go (inl t) = rw t
+    go (inr t) = rw t (omega (arith, ltb-false n (length bs) t, row_length_le bs, row_length_is bs))
 
 drop_more : (n b : ℕ) (bs : List ℕ) → drop (suc n + 1) (b ∷ bs) ≡ drop (n + 1) bs
 drop_more n b bs = rw (add-one (suc n), add-one n)

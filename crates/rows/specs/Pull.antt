@@ -1,10 +1,11 @@
 -- Rules 4.11 to 4.14: a pull reads the row from its place on and gives what the row says, with the place behind its LF or the feed's end.
 -- At or past the end it gives no row and the same place.
 -- Assumes nothing.
-use Rattle.std.specs.Prelude.{◌≡◌, List, [], ◌∷◌, ℕ, zero, suc, ◌+◌, min, length, drop}
+use Rattle.std.specs.Prelude.{◌≡◌, List, [], ◌∷◌, ℕ, zero, suc, ◌+◌, min, length, drop, Result, Some, None}
+use Rattle.std.specs.Prelude as code
 use Rattle.std.proofs.Math.Option.{Option, none, some}
-use Rattle.rows.specs.declared.NextRow.{NextRow}
-use Rattle.rows.specs.declared.NextRow.TheVariants.{Row, End}
+use Rattle.rows.specs.declared.Row.{Row}
+use Rattle.rows.specs.declared.RowFault.{RowFault}
 use Rattle.rows.specs.declared.RowPulled.{RowPulled}
 use Rattle.rows.specs.declared.Reader.{Reader}
 use Rattle.rows.specs.Rows.{rows_in}
@@ -38,14 +39,14 @@ unfoldable pub pulls : List ℕ → List Reading
 pulls feed = pulls_from (length feed) feed 0
 
 -- what the code's answer says
-abbrev pub next_reading : NextRow → Option Reading
-next_reading (Row r) = some (reading_of r)
-next_reading End = none
+abbrev pub next_reading : code.Option (Result Row RowFault) → Option Reading
+next_reading (Some r) = some (reading_of r)
+next_reading None = none
 
 abbrev pub pull_gave : RowPulled → Pulled
 pull_gave r = record { reading = next_reading r.row; next = r.next }
 
 -- Rule 4.10: what a pull of a reader gives and leaves. The reader has the same feed, and the next place.
-pub record PulledBy (was : Reader) (row : NextRow) (is : Reader) : Type 0 where
+pub record PulledBy (was : Reader) (row : code.Option (Result Row RowFault)) (is : Reader) : Type 0 where
   pub gave : pull_gave (record { row = row; next = is.place }) ≡ pull was.feed.now was.place
   pub same_feed : is.feed ≡ was.feed

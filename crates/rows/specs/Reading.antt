@@ -2,13 +2,14 @@
 -- before anything else (3.6). A number of more than one digit may not begin with 0 (3.4). Then come the values. So a row gets the first of
 -- the numbers 1, 6, 2 and 3 that fits it (3.7).
 -- Assumes nothing.
-use Rattle.std.specs.Prelude.{Bool, true, false, not, cond, ◌&&◌, ◌||◌, List, [], ◌∷◌, map, ℕ, ◌+◌, ◌-◌, ◌*◌, length, get_or, drop, leb, ltb, eqb}
+use Rattle.std.specs.Prelude.{Bool, true, false, not, cond, ◌&&◌, ◌||◌, List, [], ◌∷◌, map, ℕ, ◌+◌, ◌-◌, ◌*◌, length, get_or, drop, leb, ltb, eqb, Result, Ok, Err}
 use Rattle.std.proofs.Math.Option.{Option, none, some}
 use Rattle.cidr.specs.Prefix.{dotted, key_of, host_bits}
 use Rattle.ground.specs.Numbers.{check, first_fault}
 use Rattle.rows.specs.declared.parse.Values.{Values}
-use Rattle.rows.specs.declared.RowRead.{RowRead}
-use Rattle.rows.specs.declared.RowRead.TheVariants.{Good, Shape, Zeros, Range, HostBits}
+use Rattle.rows.specs.declared.Row.{Row}
+use Rattle.rows.specs.declared.RowFault.{RowFault}
+use Rattle.rows.specs.declared.RowFault.TheVariants.{Shape, Zeros, Range, HostBits}
 use Rattle.rows.specs.Rows.{dot, slash, space, digit0, digit9}
 use Rattle.rows.specs.RowNumber.{row_taken, row_shape, row_zeros, row_range, row_host_bits}
 
@@ -128,10 +129,14 @@ judged (some ns) = judged_numbers (has_zero_in_front ns) (values_of ns)
 unfoldable pub read_row : List ℕ → Reading
 read_row bytes = judged (fields_of form bytes)
 
+-- the number of what is wrong with a row by itself
+abbrev pub number_of_fault : RowFault → ℕ
+number_of_fault Shape = row_shape
+number_of_fault Zeros = row_zeros
+number_of_fault Range = row_range
+number_of_fault HostBits = row_host_bits
+
 -- what the code's answer says
-abbrev pub reading_of : RowRead → Reading
-reading_of (Good k h) = good k h
-reading_of Shape = bad row_shape
-reading_of Zeros = bad row_zeros
-reading_of Range = bad row_range
-reading_of HostBits = bad row_host_bits
+abbrev pub reading_of : Result Row RowFault → Reading
+reading_of (Ok r) = good r.key r.hop
+reading_of (Err e) = bad (number_of_fault e)

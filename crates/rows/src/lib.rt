@@ -4,41 +4,41 @@
 
 mod parse;
 
-ghost use Rattle.std.specs.Prelude.{◌≡◌, ◌+◌, ◌≤◌, min, length, drop};
+ghost use Rattle.std.specs.Prelude.{◌≡◌, ◌+◌, length, drop};
 ghost use Rattle.rows.specs.Rows.{row_length};
 ghost use Rattle.rows.specs.Reading.{read_row, reading_of};
 ghost use Rattle.rows.specs.Pull.{pull, pull_gave, PulledBy};
 
-use parse::{NumberAt, either, field_from, read_hop};
+use parse::{field_from, read_hop};
 
-// What one row says by itself: a prefix, as its key, with a hop, or what is wrong with it.
-#[derive(Clone, Copy)]
-pub enum RowRead {
-    Good { key: u64, hop: u16 },
+// What a good row says: a prefix, as its key, and a hop.
+#[derive(Clone, Copy, Debug, PartialEq, Eq)]
+pub struct Row {
+    pub key: u64,
+    pub hop: u16,
+}
+
+// What is wrong with a row by itself.
+#[derive(Clone, Copy, Debug, PartialEq, Eq)]
+pub enum RowFault {
     Shape,
     Zeros,
     Range,
     HostBits,
 }
 
-// What a pull finds: a row, as it reads by itself, or the feed's end.
-#[derive(Clone, Copy)]
-pub enum NextRow {
-    Row(RowRead),
-    End,
-}
+// What one row says by itself.
+pub type RowRead = Result<Row, RowFault>;
 
-// What a pull gives: what it finds, and the place of the next pull.
-#[derive(Clone, Copy)]
+// What a pull gives: the row that it finds, as it reads by itself, unless it stands at the feed's end, and the place of the next pull.
+#[derive(Clone, Copy, Debug, PartialEq, Eq)]
 pub struct RowPulled {
-    pub row: NextRow,
+    pub row: Option<RowRead>,
     pub next: usize,
 }
 
-// The most digits that an octet, the length and so on may have, and the byte that stands after each: '.', '.', '.', '/', ' '.
-const MOST: [usize; 5] = [3, 3, 3, 3, 2];
-
-const MARK: [u8; 5] = [46, 46, 46, 47, 32];
+// The numbers of a row before its hop, four octets and the length: the most digits that each may have, and the byte that stands after it.
+const FORM: [(usize, u8); 5] = [(3, b'.'), (3, b'.'), (3, b'.'), (3, b'/'), (2, b' ')];
 
 // What one row says by itself: the whole row's shape first, then zeros in front, then its values.
 pub fn read_row(row: &[u8]) -> RowRead
@@ -47,15 +47,11 @@ pub fn read_row(row: &[u8]) -> RowRead
     let mut v = [0u32; 5];
     let mut zeros = false;
     let mut at = 0;
-    let mut i = 0;
-    while i < 5 {
-        let NumberAt::Read { value, zero, next } = field_from(row, at, MOST[i], MARK[i]) else {
-            return RowRead::Shape;
-        };
-        v[i] = value;
-        zeros = either(zeros, zero);
-        at = next;
-        i += 1;
+    for (i, &(most, mark)) in FORM.iter().enumerate() {
+        let number = field_from(row, at, most, mark).ok_or(RowFault::Shape)?;
+        v[i] = number.value;
+        zeros |= number.zero;
+        at = number.next;
     }
     read_hop(row, at, v, zeros)
 }
@@ -64,25 +60,10 @@ pub fn read_row(row: &[u8]) -> RowRead
 pub fn row_end(feed: &[u8], at: usize) -> usize
     ensures { result ≡ at + row_length (drop at feed.now) }
 {
-    let mut end = at;
-    while end < feed.len() {
-        if feed[end] == 10 {
-            return end;
-        }
-        end += 1;
-    }
-    end
-}
-
-// The place behind a row that ends here: behind its LF, or the feed's end.
-fn behind(feed: &[u8], end: usize) -> usize
-    requires { end ≤ length feed.now }
-    ensures { result ≡ min (end + 1) (length feed.now) }
-{
-    if end < feed.len() {
-        return end + 1;
-    }
-    end
+    let Some(rest) = feed.get(at..) else {
+        return at;
+    };
+    at + rest.iter().position(|b| *b == b'\n').unwrap_or(rest.len())
 }
 
 // The row from a place on: what it says, and the place behind its LF or the feed's end. At or past the end, no row and the same place.
@@ -91,21 +72,20 @@ pub fn pull_at(feed: &[u8], place: usize) -> RowPulled
 {
     if feed.len() <= place {
         return RowPulled {
-            row: NextRow::End,
+            row: None,
             next: place,
         };
     }
     let end = row_end(feed, place);
-    let row = &feed[place..end];
-    let read = read_row(row);
+    let read = read_row(&feed[place..end]);
     RowPulled {
-        row: NextRow::Row(read),
-        next: behind(feed, end),
+        row: Some(read),
+        next: (end + 1).min(feed.len()),
     }
 }
 
 // A feed and a place in it, for hosts that take one row at a time. Any place may be set.
-#[derive(Clone, Copy)]
+#[derive(Clone, Copy, Debug, PartialEq, Eq)]
 pub struct Reader<'a> {
     pub feed: &'a [u8],
     pub place: usize,
@@ -120,7 +100,7 @@ impl<'a> Reader<'a> {
     }
 
     // The row from the reader's place on, if there is one; the reader then stands behind it.
-    pub fn pull(&mut self) -> NextRow
+    pub fn pull(&mut self) -> Option<RowRead>
         ensures { PulledBy self.old result self.new }
     {
         let p = pull_at(self.feed, self.place);

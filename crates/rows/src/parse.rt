@@ -1,12 +1,12 @@
 // The parts of a row: digits, one number with the byte after it, and what six numbers say, by zeros in front and by their values.
 // `read_row` puts them together.
-ghost use Rattle.std.specs.Prelude.{◌≡◌, false, not, ◌&&◌, ◌||◌, [], ◌-◌, ◌≤◌, ◌<◌, length, drop, get_or, ltb, eqb};
+ghost use Rattle.std.specs.Prelude.{◌≡◌, false, not, ◌&&◌, [], ◌-◌, ◌≤◌, ◌<◌, length, drop, get_or, ltb, eqb};
 ghost use Rattle.cidr.specs.Prefix.{key_of};
 ghost use Rattle.rows.specs.Rows.{digit0};
 ghost use Rattle.rows.specs.Reading.{is_digit, address_of, out_of_range, judged_numbers, fields_of, reading_of};
 ghost use Rattle.rows.specs.Inside.Fields.{digits_from, field_from, read_from};
 
-use crate::RowRead;
+use crate::{Row, RowFault, RowRead};
 
 // The values of a row's six numbers: four octets, the length and the hop.
 #[derive(Clone, Copy)]
@@ -26,53 +26,31 @@ pub struct Digits {
     pub next: usize,
 }
 
-// What stands at a place of a row: a number of the form with its mark, or something else.
+// A number of the form that stands at a place of a row: its value, whether it has a zero in front, and the place after its mark.
 #[derive(Clone, Copy)]
-pub enum NumberAt {
-    // The number's value, whether it has a zero in front, and the place after its mark.
-    Read { value: u32, zero: bool, next: usize },
-    NotOfForm,
-}
-
-// A byte from '0' to '9'.
-fn is_digit(b: u8) -> bool
-    ensures { result ≡ is_digit b }
-{
-    if b < 48 {
-        return false;
-    }
-    b <= 57
-}
-
-// The number that a digit stands for.
-fn digit(b: u8) -> u32
-    requires { b ≤ 57 }
-    ensures { result ≡ b - 48 }
-{
-    if 48 <= b { (b - 48) as u32 } else { 0 }
+pub struct NumberAt {
+    pub value: u32,
+    pub zero: bool,
+    pub next: usize,
 }
 
 // The digits of a row from a place on, at most `most` of them.
 fn digits_from(row: &[u8], at: usize, most: usize) -> Digits
     requires { (at ≤ length row.now) × (most ≤ 5) }
-    ensures { result ≡ digits_from row.now at most }
+    ensures read { result ≡ digits_from row.now at most }
+    ensures within { (at ≤ result.next) × (result.next ≤ length row.now) }
 {
-    let mut value: u32 = 0;
-    let mut next = at;
-    let mut left = most;
-    while 0 < left {
-        if next == row.len() {
+    let mut value = 0;
+    for next in at..at + most {
+        if next == row.len() || !row[next].is_ascii_digit() {
             return Digits { value, next };
         }
-        let b = row[next];
-        if !is_digit(b) {
-            return Digits { value, next };
-        }
-        value = value * 10 + digit(b);
-        next += 1;
-        left -= 1;
+        value = value * 10 + u32::from(row[next] - b'0');
     }
-    Digits { value, next }
+    Digits {
+        value,
+        next: at + most,
+    }
 }
 
 // Whether the digits from one place to another have a zero in front: there is more than one, and the first is '0'.
@@ -80,40 +58,25 @@ fn zero_in_front(row: &[u8], at: usize, end: usize) -> bool
     requires { (at < end) × (end ≤ length row.now) }
     ensures { result ≡ (ltb 1 (end - at) && eqb (get_or row.now at 0) digit0) }
 {
-    if end - at <= 1 {
-        return false;
-    }
-    row[at] == 48
-}
-
-// Either of two facts.
-pub(crate) fn either(x: bool, y: bool) -> bool
-    ensures { result ≡ (x || y) }
-{
-    if x { true } else { y }
+    end - at > 1 && row[at] == b'0'
 }
 
 // One number of the form from a place on: 1 to `most` digits and then the mark.
-pub(crate) fn field_from(row: &[u8], at: usize, most: usize, mark: u8) -> NumberAt
+#[tactic(auto, using(crate::proofs::Fields::field_answers))]
+pub(crate) fn field_from(row: &[u8], at: usize, most: usize, mark: u8) -> Option<NumberAt>
     requires { (at ≤ length row.now) × (most ≤ 5) × (is_digit mark ≡ false) }
     ensures { result ≡ field_from row.now at most mark }
 {
-    let d = digits_from(row, at, most);
-    let next = d.next;
-    if next == at {
-        return NumberAt::NotOfForm;
+    let digits = digits_from(row, at, most);
+    let next = digits.next;
+    if next == at || next == row.len() || row[next] != mark {
+        return None;
     }
-    if next == row.len() {
-        return NumberAt::NotOfForm;
-    }
-    if row[next] == mark {
-        return NumberAt::Read {
-            value: d.value,
-            zero: zero_in_front(row, at, next),
-            next: next + 1,
-        };
-    }
-    NumberAt::NotOfForm
+    Some(NumberAt {
+        value: digits.value,
+        zero: zero_in_front(row, at, next),
+        next: next + 1,
+    })
 }
 
 // The values are in range: octets to 255, length to 32, hop 1 to 65,535.
@@ -121,82 +84,65 @@ pub(crate) fn field_from(row: &[u8], at: usize, most: usize, mark: u8) -> Number
 fn in_range(v: Values) -> bool
     ensures { result ≡ not (out_of_range v) }
 {
-    if 255 < v.a {
-        return false;
-    }
-    if 255 < v.b {
-        return false;
-    }
-    if 255 < v.c {
-        return false;
-    }
-    if 255 < v.d {
-        return false;
-    }
-    if 32 < v.len {
-        return false;
-    }
-    if v.hop == 0 {
-        return false;
-    }
-    v.hop <= 65535
+    v.a <= 255
+        && v.b <= 255
+        && v.c <= 255
+        && v.d <= 255
+        && v.len <= 32
+        && v.hop != 0
+        && v.hop <= 65535
 }
 
 // The key of a row's address and length.
 fn key_of(v: Values) -> u64
     ensures { result ≡ key_of (address_of v) v.len }
 {
-    let a = v.a as u64;
-    let b = v.b as u64;
-    let c = v.c as u64;
-    let d = v.d as u64;
-    let len = v.len as u64;
-    (((a * 256 + b) * 256 + c) * 256 + d) * 64 + len
+    let a = u64::from(v.a);
+    let b = u64::from(v.b);
+    let c = u64::from(v.c);
+    let d = u64::from(v.d);
+    (((a * 256 + b) * 256 + c) * 256 + d) * 64 + u64::from(v.len)
 }
 
 // What a row of the form says: zeros in front first, then range, then host bits.
+#[tactic(auto, using(crate::proofs::Judging::judgements))]
 fn judge(zeros: bool, v: Values) -> RowRead
     ensures { reading_of result ≡ judged_numbers zeros v }
 {
     if zeros {
-        return RowRead::Zeros;
+        return Err(RowFault::Zeros);
     }
     if !in_range(v) {
-        return RowRead::Range;
+        return Err(RowFault::Range);
     }
     let key = key_of(v);
     if !cidr::is_prefix(key) {
-        return RowRead::HostBits;
+        return Err(RowFault::HostBits);
     }
-    let hop = v.hop;
-    RowRead::Good {
-        key,
-        hop: hop as u16,
-    }
+    let hop = v.hop as u16;
+    Ok(Row { key, hop })
 }
 
 // What a row says whose first five numbers are read: the hop of 1 to 5 digits ends it.
+#[tactic(auto, using(crate::proofs::RowParse::hop_answers))]
 pub(crate) fn read_hop(row: &[u8], at: usize, v: [u32; 5], zeros: bool) -> RowRead
     requires { (at ≤ length row.now) × (length v ≡ 5) }
     ensures { reading_of result ≡ read_from zeros v (fields_of [] (drop at row.now)) }
 {
     let hop = digits_from(row, at, 5);
     let end = hop.next;
-    if end == at {
-        return RowRead::Shape;
+    if end == at || end < row.len() {
+        return Err(RowFault::Shape);
     }
-    if end < row.len() {
-        return RowRead::Shape;
-    }
-    let value = hop.value;
     let zero = zero_in_front(row, at, end);
+    let [a, b, c, d, len] = v;
     let six = Values {
-        a: v[0],
-        b: v[1],
-        c: v[2],
-        d: v[3],
-        len: v[4],
-        hop: value,
+        a,
+        b,
+        c,
+        d,
+        len,
+        hop: hop.value,
     };
-    judge(either(zeros, zero), six)
+    judge(zeros | zero, six)
 }

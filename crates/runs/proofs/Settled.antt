@@ -6,25 +6,23 @@ use mathlib.Core.Bool.{cond}
 use mathlib.Core.List.{List}
 use Prim.Native.Nat.{ℕ}
 use lib.Dec.{eqb}
-use Rattle.ground.specs.Numbers.{done, ill_formed}
+use Rattle.std.proofs.Common.{Result, Ok, Err}
+use Rattle.ground.specs.declared.Refusal.{Refusal}
+use Rattle.ground.specs.Numbers.{number_of, done}
+use Rattle.ground.proofs.Numbers.{answer_by, tells_refusal}
 use Rattle.routes.specs.Row.{ListLent}
-use Rattle.runs.specs.declared.Built.{Built}
-use Rattle.runs.specs.declared.Built.TheVariants as B
-use Rattle.runs.specs.declared.Paired.{Paired}
-use Rattle.runs.specs.declared.Paired.TheVariants as P
 use Rattle.runs.specs.Build.{SlotsLent, BuildOutcome, build_gave, build, build_half}
 use Rattle.runs.specs.Pair.{Pair, pair_gave, pair_check}
 
-abbrev built_by : BuildOutcome → Built
-built_by o = cond (eqb o.number done) (B.Runs o.runs) (cond (eqb o.number ill_formed) B.IllFormed B.NoRoom)
+abbrev built_by : BuildOutcome → Result ℕ Refusal
+built_by o = answer_by o.number o.runs
 
-tells : (r : Built) (starts hops : List ℕ)
+tells : (r : Result ℕ Refusal) (starts hops : List ℕ)
     → let o = build_gave r starts hops in (built_by o ≡ r) × (o.starts ≡ starts) × (o.hops ≡ hops)
-tells (B.Runs n) starts hops = (refl, refl, refl)
-tells B.IllFormed starts hops = (refl, refl, refl)
-tells B.NoRoom starts hops = (refl, refl, refl)
+tells (Ok n) starts hops = (refl, refl, refl)
+tells (Err e) starts hops = (tells_refusal e 0, refl, refl)
 
-module _ (l : ListLent) (t : SlotsLent) (r r' : Built) (s s' h h' : List ℕ) where
+module _ (l : ListLent) (t : SlotsLent) (r r' : Result ℕ Refusal) (s s' h h' : List ℕ) where
   one_build : (o : BuildOutcome) → build_gave r s h ≡ o → build_gave r' s' h' ≡ o → (r ≡ r') × (s ≡ s') × (h ≡ h')
   one_build o e e' =
       let same = e ∙ sym e' in
@@ -41,13 +39,9 @@ module _ (l : ListLent) (t : SlotsLent) (r r' : Built) (s s' h h' : List ℕ) wh
   pub build_half_settled : build_gave r s h ≡ build_half l t → build_gave r' s' h' ≡ build_half l t → (r ≡ r') × (s ≡ s') × (h ≡ h')
   build_half_settled = one_build (build_half l t)
 
-abbrev paired_by : ℕ → Paired
-paired_by n = cond (eqb n done) P.Agreed (cond (eqb n ill_formed) P.IllFormed P.NotItsRuns)
+tells_pair : (r : Result (Unit {0}) Refusal) → answer_by (pair_gave r) tt ≡ r
+tells_pair (Ok u) = refl
+tells_pair (Err e) = tells_refusal e tt
 
-tells_pair : (r : Paired) → paired_by (pair_gave r) ≡ r
-tells_pair P.Agreed = refl
-tells_pair P.IllFormed = refl
-tells_pair P.NotItsRuns = refl
-
-pub pair_settled : (p : Pair) (r r' : Paired) → pair_gave r ≡ pair_check p → pair_gave r' ≡ pair_check p → r ≡ r'
-pair_settled p r r' e e' = sym (tells_pair r) ∙ ap paired_by (e ∙ sym e') ∙ tells_pair r'
+pub pair_settled : (p : Pair) (r r' : Result (Unit {0}) Refusal) → pair_gave r ≡ pair_check p → pair_gave r' ≡ pair_check p → r ≡ r'
+pair_settled p r r' e e' = sym (tells_pair r) ∙ ap (λ n. answer_by n tt) (e ∙ sym e') ∙ tells_pair r'

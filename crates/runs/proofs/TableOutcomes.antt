@@ -15,14 +15,13 @@ use Rattle.routes.specs.Row.{Row, ListLent, rows_lent}
 use Rattle.routes.specs.WellFormed.{well_formed, formed}
 use Rattle.routes.proofs.ListTest.{well_half, formed_half}
 use Rattle.routes.proofs.Columns.{length_rows}
-use Rattle.runs.specs.declared.Built.TheVariants as B
-use Rattle.runs.specs.declared.Paired.TheVariants as P
 use Rattle.runs.specs.Table.{run_starts, run_hops}
 use Rattle.runs.specs.Build.{SlotsLent, BuildOutcome, built, build_checks, build_of, run_room}
 use Rattle.runs.specs.Pair.{Pair, pair_ill, its_runs, pair_checks, pair_check}
 use Rattle.runs.specs.Inside.Rows.{build_rows}
 use Rattle.sweep.specs.Sweep.{all_rows, answer, are_runs}
-use Rattle.runs.proofs.WholeList.{in_keys, in_hops, slices_rows, slices_sorted, whole_starts, whole_hops}
+use Rattle.runs.proofs.WholeList.{sliced, in_keys, in_hops, slices_rows, slices_sorted, whole_starts, whole_hops}
+use Rattle.runs.proofs.WholeList.{list_test, starts_taken, rhops_taken, runs_paired}
 use Rattle.runs.proofs.Table.{runs_at_most}
 
 -- A build goes by the list test, and then by the room, of a half too.
@@ -126,3 +125,10 @@ module _ (p : Pair) where
       go true its e = absurd (omega arith)
       go false true e = absurd (omega arith)
       go false false e = (refl, refl)
+
+-- what a build of a list goes by, and the pair check
+pub ruleset list_built = (formed_half, sliced, build_ill, build_well)
+
+pub ruleset pair_tests = (list_test, pair_ill_list, pair_ill_runs, its, pair_agreed, pair_differs)
+
+pub ruleset pair_checked = (formed_half, sliced, starts_taken, rhops_taken, runs_paired, pair_tests)

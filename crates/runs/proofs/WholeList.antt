@@ -78,6 +78,12 @@ module _ (count : ℕ) (keys hops : List ℕ) (e : half_formed count keys hops �
   unfolding list_room
   in_hops = omega (arith, half_room count keys hops e)
 
+  pub keys_taken : count ≡ length (take count keys)
+  keys_taken = sym (length-take-le count keys in_keys)
+
+  pub hops_taken : count ≡ length (take count hops)
+  hops_taken = sym (length-take-le count hops in_hops)
+
   pub slices_rows : all_rows (take count keys) (take count hops) ≡ rows_of count keys hops
   slices_rows = rw (length-take-le count keys in_keys) (rows_taken count keys hops)
 
@@ -132,5 +138,16 @@ module _ (runs : ℕ) (starts rhops : List ℕ) (l : runs ≤ run_room starts rh
   unfolding run_room
   in_rhops = omega arith
 
+  pub starts_taken : runs ≡ length (take runs starts)
+  starts_taken = sym (length-take-le runs starts in_starts)
+
+  pub rhops_taken : runs ≡ length (take runs rhops)
+  rhops_taken = sym (length-take-le runs rhops in_rhops)
+
   pub runs_paired : length (take runs rhops) ≡ length (take runs starts)
   runs_paired = rw (length-take-le runs rhops in_rhops) (sym (length-take-le runs starts in_starts))
+
+-- what a build of rows goes by, and the slices of a list's rows
+pub ruleset building = (rows_no_room, room_for_runs, rows_runs)
+
+pub ruleset sliced = (keys_taken, hops_taken, slices_sorted, slices_rows)

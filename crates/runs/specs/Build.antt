@@ -2,13 +2,12 @@
 -- that isn't well-formed, and 13 if the run table has more runs than the room. Rule 11.10: a build over a half does the same, but label 0
 -- is no fault.
 -- Assumes nothing.
-use Rattle.std.specs.Prelude.{Bool, true, false, not, List, [], ◌∷◌, ℕ, min, length, ltb}
-use Rattle.ground.specs.Numbers.{Check, check, outcome, done, ill_formed, no_room}
+use Rattle.std.specs.Prelude.{Bool, true, false, not, List, [], ◌∷◌, ℕ, min, length, ltb, Result, Ok, Err}
+use Rattle.ground.specs.declared.Refusal.{Refusal}
+use Rattle.ground.specs.Numbers.{Check, check, outcome, number_of, done, ill_formed, no_room}
 use Rattle.ground.specs.Slots.{written}
 use Rattle.routes.specs.Row.{ListLent, rows_lent}
 use Rattle.routes.specs.WellFormed.{formed}
-use Rattle.runs.specs.declared.Built.{Built}
-use Rattle.runs.specs.declared.Built.TheVariants.{Runs, IllFormed, NoRoom}
 use Rattle.runs.specs.Table.{run_starts, run_hops}
 
 -- Rule 6.5: the most runs that any run table may have.
@@ -38,10 +37,9 @@ abbrev pub built : ℕ → ℕ → List ℕ → List ℕ → BuildOutcome
 built n runs starts hops = record { number = n; runs = runs; starts = starts; hops = hops }
 
 -- the same, read from the code's answer and the slices at exit
-abbrev pub build_gave : Built → List ℕ → List ℕ → BuildOutcome
-build_gave (Runs n) starts hops = built done n starts hops
-build_gave IllFormed starts hops = built ill_formed 0 starts hops
-build_gave NoRoom starts hops = built no_room 0 starts hops
+abbrev pub build_gave : Result ℕ Refusal → List ℕ → List ℕ → BuildOutcome
+build_gave (Ok n) starts hops = built done n starts hops
+build_gave (Err e) starts hops = built (number_of e) 0 starts hops
 
 -- the checks of a build; the flag says whether its list is a half
 unfoldable pub build_checks : Bool → ListLent → SlotsLent → List Check

@@ -1,13 +1,12 @@
 -- Rule 8.1: a pair gets 11 if its list isn't well-formed, or if its count of runs is greater than the run table's room.
 -- Rule 8.2: else it gets 14 unless the table is exactly the list's run table.
 -- Assumes nothing.
-use Rattle.std.specs.Prelude.{Bool, not, ◌&&◌, ◌||◌, List, [], ◌∷◌, ℕ, take, ltb}
-use Rattle.ground.specs.Numbers.{Check, check, first_fault, done, ill_formed, not_its_runs}
+use Rattle.std.specs.Prelude.{Bool, not, ◌&&◌, ◌||◌, List, [], ◌∷◌, ℕ, take, ltb, Result, Ok, Err}
+use Rattle.ground.specs.declared.Refusal.{Refusal}
+use Rattle.ground.specs.Numbers.{Check, check, first_fault, number_of, done, ill_formed, not_its_runs}
 use Rattle.ground.specs.Slots.{same}
 use Rattle.routes.specs.Row.{Row, ListLent, rows_lent}
 use Rattle.routes.specs.WellFormed.{well_formed}
-use Rattle.runs.specs.declared.Paired.{Paired}
-use Rattle.runs.specs.declared.Paired.TheVariants.{Agreed, IllFormed, NotItsRuns}
 use Rattle.runs.specs.Table.{RunsLent, run_starts, run_hops}
 use Rattle.runs.specs.Build.{run_room}
 
@@ -42,7 +41,6 @@ pair_checks p = check (pair_ill p) ill_formed ∷ check (not (its_runs p)) not_i
 unfoldable pub pair_check : Pair → ℕ
 pair_check p = first_fault (pair_checks p)
 
-abbrev pub pair_gave : Paired → ℕ
-pair_gave Agreed = done
-pair_gave IllFormed = ill_formed
-pair_gave NotItsRuns = not_its_runs
+abbrev pub pair_gave : Result (Unit {0}) Refusal → ℕ
+pair_gave (Ok u) = done
+pair_gave (Err e) = number_of e

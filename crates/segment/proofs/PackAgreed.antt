@@ -2,16 +2,21 @@
 -- packing the table's blocks is packing the segment.
 -- Assumes nothing.
 use mathlib.Core.Path.{◌≡◌, sym, ap, ◌∙◌}
+use mathlib.Core.Bool.{true}
 use Prim.Native.Nat.{ℕ, ◌+◌, ◌-◌, ◌*◌, ◌^◌, ◌≤◌, ◌<◌}
 use native.Mathlib.Nat.{mul-le-mul_right}
 use native.Mathlib.Omega.{arith}
-use lib.ListN.{take}
+use lib.ListN.{length, take}
 use lib.Pow.{pow_pos}
 use Rattle.ground.specs.Numbers.{done}
-use Rattle.runs.specs.Pair.{Pair, list_of, pair_check}
-use Rattle.runs.proofs.Agreed.{agreed_table, agreed_keys, agreed_prefixes}
+use Rattle.std.proofs.Common.{Result, Ok}
+use Rattle.ground.specs.declared.Refusal.{Refusal}
+use Rattle.ground.specs.Column.{ascends}
+use Rattle.runs.specs.Pair.{Pair, list_of, pair_check, pair_gave}
+use Rattle.runs.proofs.WholeList.{keys_taken, starts_taken, rhops_taken}
+use Rattle.runs.proofs.Agreed.{agreed_half, agreed_room, agreed_table, agreed_keys, agreed_prefixes, agreed_ascends}
 use Rattle.segment.specs.Packed.{width, block_hop}
-use Rattle.segment.specs.Pack.{PackLent, pack}
+use Rattle.segment.specs.Pack.{PackLent, PackOutcome, pack}
 use Rattle.segment.specs.Inside.Blocks.{Runs, hop_in, pack_blocks}
 use Rattle.segment.specs.Inside.Width.{width_in}
 use Rattle.segment.proofs.BlockHop.{width_most}
@@ -47,3 +52,26 @@ module _ (q : ℕ) (p : Pair) (agreed : pair_check p ≡ done) where
       (omega (arith, block_inside (width q (list_of p)) b (width_most q (list_of p) (agreed_prefixes p agreed)) below)))
       l
       ∙ sym (pack_agreed q p l agreed))
+
+-- the same where the pair check answered Ok
+module _ (p : Pair) {r : Result (Unit {0}) Refusal} {u : Unit {0}} (is : pair_gave r ≡ pair_check p) (ok : r ≡ Ok u) where
+  agreed : pair_check p ≡ done
+  agreed = sym is ∙ ap pair_gave ok
+
+  pub pair_keys : p.list.count ≡ length (take p.list.count p.list.keys)
+  pair_keys = keys_taken p.list.count p.list.keys p.list.hops (agreed_half p agreed)
+
+  pub pair_starts : p.table.count ≡ length (take p.table.count p.table.starts)
+  pair_starts = starts_taken p.table.count p.table.starts p.table.hops (agreed_room p agreed)
+
+  pub pair_rhops : p.table.count ≡ length (take p.table.count p.table.hops)
+  pair_rhops = rhops_taken p.table.count p.table.starts p.table.hops (agreed_room p agreed)
+
+  module _ (q q' : ℕ) (e : q' ≡ q) (small : q < 65536) where
+    pub pair_ready : (q' < 65536) × (ascends (take p.list.count p.list.keys) ≡ true) × (width_in q' (take p.list.count p.list.keys) ≤ 16)
+        × Runs (take p.table.count p.table.starts) (take p.table.count p.table.hops)
+    pair_ready = rw e (small, agreed_ascends p agreed, agreed_narrow q p agreed, agreed_runs q p agreed)
+
+    pub pair_packed : (l : PackLent) {o : PackOutcome} → let w = width_in q' (take p.list.count p.list.keys) in
+        o ≡ pack_blocks w (hop_in (take p.table.count p.table.starts) (take p.table.count p.table.hops) (q' * 65536) (2 ^ (16 - w))) l → o ≡ pack q p l
+    pair_packed l is = rw e at is ∙ segment_packed q p agreed small l

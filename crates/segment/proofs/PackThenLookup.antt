@@ -11,8 +11,8 @@ use Rattle.routes.specs.Lookup.{looked_up}
 use Rattle.routes.specs.Plain.{plain}
 use Rattle.runs.specs.Pair.{Pair, list_of, pair_check}
 use Rattle.runs.proofs.Agreed.{agreed_prefixes}
-use Rattle.segment.specs.declared.Packing.TheVariants.{Done}
-use Rattle.packed.specs.declared.PackedHop.{PackedHop}
+use Rattle.std.proofs.Common.{Result, Ok}
+use Rattle.ground.specs.declared.Refusal.{Refusal}
 use Rattle.segment.specs.Packed.{width, block_hop, words_for, code_words, bases_from, kept_hops}
 use Rattle.segment.specs.Pack.{PackLent, PackOutcome, pack_gave, pack}
 use Rattle.packed.specs.Lookup.{segment_lent, packed_gave, packed_lookup}
@@ -23,7 +23,7 @@ use Rattle.segment.proofs.PackedFinds.{packed_finds}
 use Rattle.segment.proofs.PackLaws.{pack_agreed, pack_accepted, blocks_left}
 
 module _ (q : ℕ) (p : Pair) (l : PackLent) {w n m : ℕ} {words bases hops : List ℕ}
-    (left : pack_gave (Done w n m) words bases hops ≡ pack q p l) where
+    (left : pack_gave (Ok (record { width = w; words = n; hops = m })) words bases hops ≡ pack q p l) where
   agreed : pair_check p ≡ done
   agreed = pack_accepted q p l (sym (ap (λ (o : PackOutcome). o.number) left))
 
@@ -31,7 +31,7 @@ module _ (q : ℕ) (p : Pair) (l : PackLent) {w n m : ℕ} {words bases hops : L
   hop : ℕ → ℕ
   hop = block_hop q (list_of p) (width q (list_of p))
 
-  is : pack_gave (Done w n m) words bases hops ≡ blocks_done (width q (list_of p)) hop l
+  is : pack_gave (Ok (record { width = w; words = n; hops = m })) words bases hops ≡ blocks_done (width q (list_of p)) hop l
   unfolding hop
   is =
       let blocks = left ∙ pack_agreed q p l agreed in
@@ -66,7 +66,7 @@ module _ (q : ℕ) (p : Pair) (l : PackLent) {w n m : ℕ} {words bases hops : L
         rw (← hop_count_lem)
         (hops_same ∙ ap (take m) (ap (λ (o : PackOutcome). o.hops) is) ∙ take_written _ l.hops m hop_count_lem)
 
-    pub pack_then_lookup : (r : PackedHop) (a : ℕ) → a / 65536 ≡ q → packed_gave r ≡ packed_lookup (segment_lent w ws bs hs) a
+    pub pack_then_lookup : (r : Result ℕ Refusal) (a : ℕ) → a / 65536 ≡ q → packed_gave r ≡ packed_lookup (segment_lent w ws bs hs) a
         → packed_gave r ≡ looked_up done (plain (list_of p) a)
     unfolding hop
     pack_then_lookup r a here e =

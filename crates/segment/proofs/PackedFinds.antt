@@ -11,8 +11,8 @@ use Rattle.ground.specs.Numbers.{done}
 use Rattle.ground.specs.Stretch.{counted}
 use Rattle.routes.specs.Lookup.{looked_up}
 use Rattle.segment.specs.Packed.{bit, words_for, code_words, bases_from, kept_hops}
-use Rattle.packed.specs.Lookup.{SegmentLent, block_of, ones_to, packed_lookup}
-use Rattle.packed.proofs.PackedOutcome.{hop_there}
+use Rattle.packed.specs.Lookup.{SegmentLent, block_of, ones_to, past_place, packed_lookup}
+use Rattle.packed.proofs.PackedOutcome.{past_is as past_place_is, hop_there}
 use Rattle.segment.proofs.CodeWords.{length_code_words, length_code_bases, word_there, ones_through}
 use Rattle.segment.proofs.KeptHops.{length_kept_hops, some_through, through_at_most, hop_through}
 
@@ -48,7 +48,9 @@ module _ (hop : ℕ → ℕ) (n : ℕ) (s : SegmentLent) (ws : take (words_for n
 
   block_found : (a : ℕ) → s.width ≤ 16 → b ≡ block_of s.width a → packed_lookup s a ≡ looked_up done (hop b)
   block_found a narrow is =
-      sym (hop_there s a narrow b is word_in base_in _ past_is (some_through hop n b l) past_in) ∙ ap (looked_up done) hop_is
+      let past : counted (bit hop n) 0 (b + 1) ≡ past_place s a = past_is ∙ rw is (sym (past_place_is s a)) in
+      hop_there s a narrow (rw is at word_in) (rw is at base_in) (omega (arith, past, some_through hop n b l)) (omega (arith, past, past_in))
+      ∙ ap (looked_up done) (rw past at hop_is)
 
 pub packed_finds : (hop : ℕ → ℕ) (w : ℕ) → w ≤ 16 → (s : SegmentLent) → s.width ≡ w
     → take (words_for (2 ^ w)) s.words ≡ code_words hop (2 ^ w)

@@ -6,25 +6,24 @@ use mathlib.Core.Bool.{cond}
 use mathlib.Core.List.{List}
 use Prim.Native.Nat.{ℕ}
 use lib.Dec.{eqb}
-use Rattle.ground.specs.Numbers.{done, ill_formed, not_its_runs}
+use Rattle.std.proofs.Common.{Result, Ok, Err}
+use Rattle.ground.specs.declared.Refusal.{Refusal}
+use Rattle.ground.specs.Numbers.{done}
+use Rattle.ground.proofs.Numbers.{refusal_by, number_tells, number_not_done}
 use Rattle.runs.specs.Pair.{Pair}
-use Rattle.segment.specs.declared.Packing.{Packing}
-use Rattle.segment.specs.declared.Packing.TheVariants.{Done, IllFormed, NotItsRuns, NoRoom}
+use Rattle.segment.specs.declared.Packed.{Packed}
 use Rattle.segment.specs.Pack.{PackLent, PackOutcome, pack_gave, pack}
 
-abbrev packed_by : PackOutcome → Packing
+abbrev packed_by : PackOutcome → Result Packed Refusal
 packed_by o =
-    cond (eqb o.number done) (Done o.width o.word_count o.hop_count)
-    (cond (eqb o.number ill_formed) IllFormed (cond (eqb o.number not_its_runs) NotItsRuns NoRoom))
+    cond (eqb o.number done) (Ok (record { width = o.width; words = o.word_count; hops = o.hop_count })) (Err (refusal_by o.number))
 
-tells : (r : Packing) (words bases hops : List ℕ)
+tells : (r : Result Packed Refusal) (words bases hops : List ℕ)
     → let o = pack_gave r words bases hops in (packed_by o ≡ r) × (o.words ≡ words) × (o.bases ≡ bases) × (o.hops ≡ hops)
-tells (Done w n m) words bases hops = (refl, refl, refl, refl)
-tells IllFormed words bases hops = (refl, refl, refl, refl)
-tells NotItsRuns words bases hops = (refl, refl, refl, refl)
-tells NoRoom words bases hops = (refl, refl, refl, refl)
+tells (Ok p) words bases hops = (refl, refl, refl, refl)
+tells (Err e) words bases hops = (rw (number_not_done e, number_tells e), refl, refl, refl)
 
-module _ (q : ℕ) (p : Pair) (l : PackLent) (r r' : Packing) (w w' b b' h h' : List ℕ) where
+module _ (q : ℕ) (p : Pair) (l : PackLent) (r r' : Result Packed Refusal) (w w' b b' h h' : List ℕ) where
   pub pack_settled : pack_gave r w b h ≡ pack q p l → pack_gave r' w' b' h' ≡ pack q p l → (r ≡ r') × (w ≡ w') × (b ≡ b') × (h ≡ h')
   pack_settled e e' =
       let same = e ∙ sym e' in

@@ -1,46 +1,76 @@
 -- The walk over a run table from block to block. More runs have begun at a later address; one has begun at every address, since the first
 -- start is 0. So where the walk stands at a block it may go on to the next one, with that block's hop as the last.
 -- Assumes nothing.
-use mathlib.Core.Path.{◌≡◌, refl}
-use mathlib.Core.Bool.{Bool, true, false, not, cond, ◌||◌}
+use mathlib.Core.Path.{◌≡◌, ◌∙◌}
+use mathlib.Core.Bool.{Bool, true, false, not}
 use mathlib.Core.List.{List}
-use Prim.Native.Nat.{ℕ, ◌+◌, ◌-◌, ◌*◌, ◌≤◌, ◌<◌}
+use Prim.Native.Nat.{ℕ, zero, suc, ◌+◌, ◌-◌, ◌*◌, ◌≤◌, ◌<◌}
 use native.Mathlib.Omega.{arith}
-use lib.ListN.{length}
+use lib.ListN.{length, get_or}
 use lib.Dec.{eqb}
 use borrow.Author.Tests.{lt-ltb, le-ltb, ne_eqb}
+use Rattle.ground.specs.Column.{ascends, lower}
 use Rattle.ground.specs.Stretch.{turns_from}
-use Rattle.ground.proofs.Lower.{lower_le, lower_within, lower_mono}
+use Rattle.ground.proofs.Lower.{lower_le, lower_within, lower_beyond, lower_mono}
 use Rattle.segment.specs.declared.Walk.{Walk}
 use Rattle.segment.specs.Packed.{bit}
-use Rattle.segment.specs.Inside.Blocks.{Runs, begun, hop_in, no_hop, hop_before, Stands, Before}
+use Rattle.segment.specs.Inside.Blocks.{Runs, begun, hop_at, hop_in, Stands, Before}
 
 module _ {starts rhops : List ℕ} (t : Runs starts rhops) where
   pub some_begun : (a : ℕ) → 0 < begun starts a
   some_begun a = lower_within (a + 1) starts t.ascend 0 t.some_run (omega (arith, t.first))
 
-  pub begun_within : (a : ℕ) → begun starts a ≤ length rhops
-  begun_within a = omega (arith, lower_le (a + 1) starts, t.paired)
+  pub begun_place : (a : ℕ) → begun starts a - 1 < length rhops
+  begun_place a = omega (arith, lower_le (a + 1) starts, t.paired, some_begun a)
 
-  -- the walk stands at a block, and so before the next one
-  pub stands_before : (base size b : ℕ) {s : Walk} → Stands starts rhops (base + b * size) s → Before starts rhops base size (b + 1) s
-  unfolding hop_before hop_in
-  stands_before base size b {s} w = record {
-    ahead = record {
-      some = omega (arith, w.begun_is, some_begun (base + b * size));
-      upto = omega (arith, w.begun_is, lower_mono (base + b * size + 1) (base + (b + 1) * size + 1) (omega arith) starts);
-    };
-    last = let one : b + 1 - 1 ≡ b = omega arith in rw (ne_eqb (b + 1) 0 (λ z. omega arith), one) w.hop_is;
-  }
+  pub begun_first : (a : ℕ) {n : ℕ} → (ascends starts ≡ true → n ≡ lower (a + 1) starts) → n ≡ begun starts a
+  begun_first a is = is t.ascend
 
--- a block's bit is 1 exactly where its hop isn't that before it
-pub bit_is : (hop : ℕ → ℕ) (n b : ℕ) → b < n → hop b < no_hop → bit hop n b ≡ not (eqb (hop b) (hop_before hop b))
-unfolding bit turns_from hop_before
-bit_is hop n b l small = rw (lt-ltb b n l) (go (eqb b 0) refl)
-  where
-    go : (z : Bool) → eqb b 0 ≡ z → (z || not (eqb (hop b) (hop (b - 1)))) ≡ not (eqb (hop b) (cond z no_hop (hop (b - 1))))
-    go true e = rw (ne_eqb (hop b) no_hop (λ q. omega arith))
-    go false e = refl
+-- how many runs have begun at an address, found by a walk along the starts
+module _ (starts : List ℕ) (at n : ℕ) (a : ascends starts ≡ true) (known : n ≤ begun starts at) where
+  pub begun_stops : n < length starts → at < get_or starts n 0 → n ≡ begun starts at
+  begun_stops l m = omega (arith, lower_beyond (at + 1) starts a n l (omega arith))
+
+  pub begun_more : n < length starts → get_or starts n 0 ≤ at → n + 1 ≤ begun starts at
+  begun_more l m = omega (arith, lower_within (at + 1) starts a n l (omega arith))
+
+  pub begun_all : length starts ≤ n → length starts ≡ begun starts at
+  begun_all l = omega (arith, lower_le (at + 1) starts)
+
+pub ruleset begun_walk = (begun_stops, begun_more, begun_all)
+
+pub stands_at : (starts rhops : List ℕ) (at n hop : ℕ) → n ≡ begun starts at → hop ≡ get_or rhops (n - 1) 0
+    → Stands starts rhops at (record { begun = n; hop = hop })
+unfolding hop_at
+stands_at starts rhops at n hop is e = record { begun_is = is; hop_is = e ∙ rw is }
+
+-- what the walk goes by
+pub ruleset walked = (some_begun, begun_place, begun_first, stands_at)
+
+pub one_more : (t size : ℕ) → 0 < t → (t - 1) * size + size ≡ t * size
+one_more zero size l = absurd (omega arith)
+one_more (suc t) size l = let one : suc t - 1 ≡ t = omega arith in rw one (omega arith)
+
+-- The walk stands at the block before block t: it may go on to that block, whose bit is 1 exactly where its hop isn't that before it.
+module _ {starts rhops : List ℕ} {base size t : ℕ} {s : Walk} (b : Before starts rhops base size t s) (some : 0 < t) where
+  pub may_go_on : s.begun ≤ begun starts (base + t * size)
+  may_go_on =
+      omega (arith, one_more t size some, b.stands.begun_is, lower_mono (base + (t - 1) * size + 1) (base + t * size + 1) (omega (arith, one_more t size some)) starts)
+
+  module _ {n : ℕ} (l : t < n) {next : Walk} (st : Stands starts rhops (base + t * size) next) {z : Bool} (e : z ≡ not (eqb next.hop s.hop)) where
+    pub bit_found : bit (hop_in starts rhops base size) n t ≡ z
+    unfolding bit turns_from hop_in
+    bit_found = rw (e, st.hop_is, b.stands.hop_is, lt-ltb t n l, ne_eqb t 0 (λ q. omega arith))
+
+-- the walk stands at a block, and so before the next one
+pub stands_before : (starts rhops : List ℕ) (base size t : ℕ) {s : Walk} → Stands starts rhops (base + t * size) s
+    → Before starts rhops base size (t + 1) s
+stands_before starts rhops base size t st = let one : t + 1 - 1 ≡ t = omega arith in record { stands = rw one st }
+
+-- the first bit is 1
+pub bit_first : (hop : ℕ → ℕ) (n : ℕ) → 0 < n → bit hop n 0 ≡ true
+unfolding bit turns_from
+bit_first hop n l = rw (lt-ltb 0 n l)
 
 pub bit_none : (hop : ℕ → ℕ) (n b : ℕ) → n ≤ b → bit hop n b ≡ false
 unfolding bit

@@ -4,57 +4,63 @@
 use mathlib.Core.Path.{◌≡◌, sym, ap, ◌∙◌}
 use mathlib.Core.Bool.{true}
 use mathlib.Core.List.{List}
-use Prim.Native.Nat.{ℕ, ◌+◌, ◌-◌, ◌*◌, ◌≤◌, ◌<◌, max, zero-le}
+use Prim.Native.Nat.{ℕ, ◌+◌, ◌-◌, ◌*◌, ◌≤◌, ◌<◌, max}
 use native.Mathlib.Omega.{arith}
-use lib.ListN.{length, get_or, take}
-use lib.Seq.{take_all}
+use lib.ListN.{length, get_or, take, drop, length-take, length-drop}
+use lib.Seq.{take_all, get_or-take, get_or-drop}
+use borrow.Rule.Slice.PartMut.{mid_of}
 use Rattle.ground.specs.Column.{ascends, lower}
+use Rattle.ground.proofs.Lower.{lower_le}
 use Rattle.cidr.specs.Prefix.{length_of}
 use Rattle.segment.specs.Inside.Width.{width_in}
 use Rattle.segment.proofs.WidthOf.{width_more, by_inside, width_before, width_behind, below_lower, from_lower}
 
-pub record Widening (keys : List ℕ) (q first i width : ℕ) : Type 0 where
+pub record Widening (keys : List ℕ) (q first start i width : ℕ) : Type 0 where
   pub ascend : ascends keys ≡ true
   pub first_is : first ≡ q * 4194304
   pub segment : q < 65536
-  pub from : lower first keys ≤ i
-  pub small : width ≤ 47
-  pub is : width ≡ width_in q (take i keys)
+  pub from : start ≡ lower first keys
+  pub is : width ≡ width_in q (take (start + i) keys)
 
-pub widening_start : {keys : List ℕ} {q first i : ℕ} → ascends keys ≡ true → first ≡ q * 4194304 → q < 65536 → i ≡ lower first keys
-    → Widening keys q first i 0
-widening_start {keys} {q} {first} {i} a e s l = record {
+pub widening_start : {keys : List ℕ} {q first start : ℕ} → ascends keys ≡ true → first ≡ q * 4194304 → q < 65536 → start ≡ lower first keys
+    → Widening keys q first start 0 0
+widening_start {keys} {q} {first} {start} a e s l = record {
   ascend = a;
   first_is = e;
   segment = s;
-  from = omega arith;
-  small = zero-le;
-  is = sym (width_before q keys i (λ j below. omega (arith, below_lower first keys a j (omega arith))));
+  from = l;
+  is = sym (width_before q keys (start + 0) (λ j below. omega (arith, below_lower first keys a j (omega arith))));
 }
 
-module _ {keys : List ℕ} {q first i width : ℕ} (s : Widening keys q first i width) where
-  pub widening_end : length keys ≤ i → width ≡ width_in q keys
-  widening_end l = s.is ∙ ap (width_in q) (take_all i keys l)
+module _ {keys : List ℕ} {q first start i width : ℕ} (s : Widening keys q first start i width) where
+  abbrev rest : List ℕ
+  rest = mid_of start (length keys - start) keys
 
-  pub widening_behind : first + 4194304 ≤ get_or keys i 0 → width ≡ width_in q keys
-  widening_behind l = s.is ∙ sym (width_behind q keys i s.ascend (omega (arith, s.first_is)))
+  rest_long : length rest ≡ length keys - start
+  rest_long = simp (length-take, length-drop) (omega arith)
 
-  module _ (within : i < length keys) (before : get_or keys i 0 < first + 4194304) where
-    wider : width_in q (take (i + 1) keys) ≡ max width (length_of (get_or keys i 0) - 16)
-    wider =
-        width_more q keys i within
-        ∙ rw (
-          ← s.is,
-          by_inside q (get_or keys i 0) (omega (arith, s.first_is, from_lower first keys s.ascend i s.from within))
-              (omega (arith, s.first_is)),
-        )
+  pub widening_end : length rest ≤ i → width ≡ width_in q keys
+  widening_end l = s.is ∙ ap (width_in q) (take_all (start + i) keys (omega (arith, rest_long)))
 
-    pub widening_on : (width' : ℕ) → width' ≡ max width (length_of (get_or keys i 0) - 16) → Widening keys q first (i + 1) width'
-    widening_on width' e = record {
-      ascend = s.ascend;
-      first_is = s.first_is;
-      segment = s.segment;
-      from = omega (arith, s.from);
-      small = omega (arith, s.small);
-      is = e ∙ sym wider;
-    }
+  module _ (within : i < length rest) where
+    here : get_or rest i 0 ≡ get_or keys (start + i) 0
+    here = get_or-take (length keys - start) (drop start keys) i 0 (omega (arith, rest_long)) ∙ get_or-drop start keys i 0
+
+    pub widening_behind : first + 4194304 ≤ get_or rest i 0 → width ≡ width_in q keys
+    widening_behind l = s.is ∙ sym (width_behind q keys (start + i) s.ascend (omega (arith, s.first_is, here)))
+
+    module _ (before : get_or rest i 0 < first + 4194304) where
+      wider : width_in q (take (start + i + 1) keys) ≡ max width (length_of (get_or rest i 0) - 16)
+      wider =
+          let in_keys : start + i < length keys = omega (arith, rest_long) in
+          let above : first ≤ get_or keys (start + i) 0 = from_lower first keys s.ascend (start + i) (omega (arith, s.from)) in_keys in
+          width_more q keys (start + i) in_keys
+          ∙ rw (here, ← s.is, by_inside q (get_or keys (start + i) 0) (omega (arith, s.first_is, above)) (omega (arith, s.first_is, here)))
+
+      pub widening_on : {width' : ℕ} → width' ≡ max width (length_of (get_or rest i 0) - 16) → Widening keys q first start (i + 1) width'
+      widening_on e =
+          let next : start + (i + 1) ≡ start + i + 1 = omega arith in
+          record { ascend = s.ascend; first_is = s.first_is; segment = s.segment; from = s.from; is = rw next (e ∙ sym wider) }
+
+-- what the walk along the keys goes by
+pub ruleset widening = (lower_le, widening_start, widening_end, widening_behind)

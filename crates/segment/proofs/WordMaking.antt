@@ -1,26 +1,21 @@
 -- Making a code word block by block: what is made is the word of the bits seen, and the walk stands before the next block, or behind the
 -- last one. A block is one bit more, which is the lowest. A bit without a block is 0, and there the walk stays.
 -- Assumes nothing.
-use mathlib.Core.Path.{◌≡◌, ◌∙◌}
-use mathlib.Core.Bool.{Bool, not}
+use mathlib.Core.Path.{◌≡◌, refl, ◌∙◌}
+use mir.Val.{bool_byte}
+use mathlib.Core.Bool.{Bool, true, false, not}
 use mathlib.Core.List.{List}
-use Prim.Native.Nat.{ℕ, zero, suc, ◌+◌, ◌*◌, ◌≤◌, ◌<◌, min}
-use native.Mathlib.Nat.{mul-le-mul_left, mul-le-mul_right}
+use Prim.Native.Nat.{ℕ, zero, suc, ◌+◌, ◌-◌, ◌*◌, ◌≤◌, ◌<◌, min}
+use native.Mathlib.Nat.{mul-le-mul_left}
 use native.Mathlib.Omega.{arith}
 use lib.Pow.{pow_mono}
 use lib.Dec.{eqb}
 use Rattle.segment.specs.declared.Walk.{Walk}
 use Rattle.segment.specs.Packed.{bit, bit_value, word_from}
-use Rattle.segment.specs.Inside.Blocks.{Runs, hop_in, Ahead, Stands, Before, Grid, WordMade}
+use Rattle.segment.specs.Inside.Blocks.{begun, hop_in, Stands, Before, Grid}
 use Rattle.segment.proofs.WordOnes.{word_small, word_cut}
-use Rattle.segment.proofs.Walking.{stands_before, bit_is, bit_none}
-
--- a block of a segment ends in the address space
-pub block_ends : {base size n : ℕ} → Grid base size n → (t : ℕ) → t < n → base + t * size + size ≤ 4294967296
-block_ends {base} {size} {n} g t l = omega (arith, g.within, g.whole, ends t n size l)
-  where
-    ends : (t n size : ℕ) → t < n → t * size + size ≤ n * size
-    ends t n size l = omega (arith, mul-le-mul_right {m = t + 1} {n = n} size (omega arith))
+use Rattle.segment.proofs.Walking.{may_go_on, bit_found, stands_before, bit_first, bit_none}
+use Rattle.segment.proofs.AtBlock.{some_block}
 
 -- a segment has at most as many blocks as addresses
 pub few_blocks : {base size n : ℕ} → Grid base size n → n ≤ 65536
@@ -30,86 +25,75 @@ few_blocks {size = size} {n} g = few size n g.whole
     few zero n e = absurd (omega arith)
     few (suc size) n e = omega (arith, mul-le-mul_left {m = 1} {n = suc size} n (omega arith))
 
--- the walk goes on from before block t to it, and its hop is another exactly where the block's bit is 1
-walked_bit : {starts rhops : List ℕ} {base size n t : ℕ} {last next : Walk} → Before starts rhops base size t last
-    → Stands starts rhops (base + t * size) next → t < n → bit (hop_in starts rhops base size) n t ≡ not (eqb next.hop last.hop)
-unfolding hop_in
-walked_bit {starts} {rhops} {base} {size} {n} {t} b s l =
-    rw (b.last, s.hop_is) (bit_is (hop_in starts rhops base size) n t l (omega (arith, s.hop_is, s.hop_small)))
-
 -- one bit at the end
 word_more : (p : ℕ → Bool) (k t : ℕ) → word_from p (k + 1) t ≡ word_from p k t * 2 + bit_value (p (t + k))
 unfolding word_from
 word_more p k t = word_cut p k 1 t ∙ omega arith
 
--- after the bits seen
-pub record Making (starts rhops : List ℕ) (base size n first word : ℕ) (walk : Walk) (at seen : ℕ) : Type 0 where
-  pub few : seen ≤ 16
-  pub word_is : word ≡ word_from (bit (hop_in starts rhops base size) n) seen first
-  pub at_is : at ≡ base + min (first + seen) n * size
-  pub walk_is : Before starts rhops base size (min (first + seen) n) walk
+as_bit : (b : Bool) → bool_byte b ≡ bit_value b
+as_bit true = refl
+as_bit false = refl
 
-pub making_start : {starts rhops : List ℕ} {base size n first : ℕ} {walk : Walk} → first < n → Before starts rhops base size first walk
-    → Making starts rhops base size n first 0 walk (base + first * size) 0
-unfolding word_from
-making_start {n = n} {first} l b =
-    let here : min (first + 0) n ≡ first = omega arith in
-    record {
-      few = omega arith;
-      word_is = omega arith;
-      at_is = rw here;
-      walk_is = rw here b;
-    }
+-- the first block's bit, the bit of a later block to which the walk went, and that of no block
+module _ (starts rhops : List ℕ) (base size n block : ℕ) (s : Walk) (b : Before starts rhops base size (min block n) s) where
+  module _ (g : Grid base size n) (first : block ≡ 0) where
+    pub first_one : 1 ≡ bit_value (bit (hop_in starts rhops base size) n block)
+    first_one = rw (first, bit_first (hop_in starts rhops base size) n (some_block g))
 
-module _ {starts rhops : List ℕ} {base size n first word : ℕ} {walk : Walk} {at seen : ℕ}
-    (m : Making starts rhops base size n first word walk at seen) where
-  pub making_done : seen ≡ 16 → WordMade starts rhops base size n first (record { word = word; walk = walk })
-  making_done e = record { word_is = rw e at m.word_is; next = rw e at m.walk_is }
+    pub first_stays : Before starts rhops base size (min (block + 1) n) s
+    first_stays = let same : min (block + 1) n - 1 ≡ min block n - 1 = omega (arith, some_block g) in record { stands = rw same b.stands }
 
-  -- the next bit is that of a block
-  module _ (there : first + seen < n) where
-    here : min (first + seen) n ≡ first + seen
-    here = omega arith
+  module _ (some : ¬ (block ≡ 0)) (l : block < n) where
+    before_block : Before starts rhops base size block s
+    before_block = let here : min block n ≡ block = omega arith in rw here at b
 
-    at_block : at ≡ base + (first + seen) * size
-    at_block = rw here at m.at_is
+    pub may_walk : s.begun ≤ begun starts (base + block * size)
+    may_walk = may_go_on before_block (omega arith)
 
-    before_block : Before starts rhops base size (first + seen) walk
-    before_block = rw here at m.walk_is
+    module _ {next : Walk} (st : Stands starts rhops (base + block * size) next) where
+      pub gone : Before starts rhops base size (min (block + 1) n) next
+      gone = let here : min (block + 1) n ≡ block + 1 = omega arith in rw here (stands_before starts rhops base size block st)
 
-    pub making_asks : Ahead starts at walk
-    making_asks = rw at_block before_block.ahead
+      pub bit_there : {z : Bool} → z ≡ not (eqb next.hop s.hop) → {v : ℕ} → v ≡ bool_byte z
+          → v ≡ bit_value (bit (hop_in starts rhops base size) n block)
+      bit_there {z} f is = is ∙ rw (bit_found before_block (omega arith) l st f) (as_bit z)
 
-    pub at_fits : Grid base size n → at + size ≤ 4294967296
-    at_fits g = omega (arith, at_block, block_ends g (first + seen) there)
+  module _ (past : n ≤ block) where
+    pub no_bit : 0 ≡ bit_value (bit (hop_in starts rhops base size) n block)
+    no_bit = rw (bit_none (hop_in starts rhops base size) n block past)
 
-  -- there is one bit more to see
-  module _ (more : seen < 16) where
-    pub bit_fits : word * 2 + 1 < 65536
-    bit_fits =
-        omega (arith, m.word_is, word_small (bit (hop_in starts rhops base size) n) seen first, pow_mono {i = seen} {j = 15} (omega arith))
+    pub stays : Before starts rhops base size (min (block + 1) n) s
+    stays = let here : min (block + 1) n ≡ min block n = omega arith in rw here b
 
-    -- that of a block, to which the walk went
-    pub making_block : Runs starts rhops → first + seen < n → {next : Walk} → Stands starts rhops at next → {b : ℕ}
-        → b ≡ bit_value (not (eqb next.hop walk.hop))
-        → Making starts rhops base size n first (word * 2 + b) next (at + size) (seen + 1)
-    making_block r there s e =
-        let on : min (first + (seen + 1)) n ≡ first + seen + 1 = omega arith in
-        let w = rw (at_block there) at s in
-        record {
-          few = omega arith;
-          word_is = rw (word_more, e, walked_bit (before_block there) w there, m.word_is);
-          at_is = rw on (omega (arith, at_block there));
-          walk_is = rw on (stands_before r base size (first + seen) w);
-        }
+-- after the bits of the blocks from the first on
+pub record Making (starts rhops : List ℕ) (base size n first word : ℕ) (s : Walk) (block : ℕ) : Type 0 where
+  pub from : first ≤ block
+  pub word_is : word ≡ word_from (bit (hop_in starts rhops base size) n) (block - first) first
+  pub walk_is : Before starts rhops base size (min block n) s
 
-    -- that of no block
-    pub making_none : n ≤ first + seen → Making starts rhops base size n first (word * 2) walk at (seen + 1)
-    making_none past =
-        let stays : min (first + (seen + 1)) n ≡ min (first + seen) n = omega arith in
-        record {
-          few = omega arith;
-          word_is = rw (word_more, bit_none (hop_in starts rhops base size) n (first + seen) past, m.word_is) (omega arith);
-          at_is = rw stays m.at_is;
-          walk_is = rw stays m.walk_is;
-        }
+module _ {starts rhops : List ℕ} {base size n first : ℕ} {s : Walk} where
+  pub making_start : Before starts rhops base size (min first n) s → Making starts rhops base size n first 0 s first
+  unfolding word_from
+  making_start b =
+      let none : first - first ≡ 0 = omega arith in
+      record { from = omega arith; word_is = rw none; walk_is = b }
+
+  module _ {word block : ℕ} (m : Making starts rhops base size n first word s block) where
+    pub making_done : block ≡ first + 16 → word ≡ word_from (bit (hop_in starts rhops base size) n) 16 first
+    making_done e = let all : block - first ≡ 16 = omega arith in rw all at m.word_is
+
+    pub making_gone : block ≡ first + 16 → Before starts rhops base size (min (first + 16) n) s
+    making_gone e = rw e at m.walk_is
+
+    module _ (more : block < first + 16) where
+      pub bit_fits : word * 2 + 1 < 65536
+      bit_fits =
+          let all = bit (hop_in starts rhops base size) n in
+          omega (arith, m.word_is, word_small all (block - first) first, pow_mono {i = block - first} {j = 15} (omega arith))
+
+      pub making_next : {b : ℕ} {next : Walk} → b ≡ bit_value (bit (hop_in starts rhops base size) n block)
+          → Before starts rhops base size (min (block + 1) n) next → Making starts rhops base size n first (word * 2 + b) next (block + 1)
+      making_next e w =
+          let on : block + 1 - first ≡ block - first + 1 = omega (arith, m.from) in
+          let there : first + (block - first) ≡ block = omega (arith, m.from) in
+          record { from = omega (arith, m.from); word_is = rw (on, word_more, there, e, m.word_is); walk_is = w }

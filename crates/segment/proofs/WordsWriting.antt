@@ -26,21 +26,19 @@ written_next new old j v l room e =
     let long : length (take j new) ≡ j = length-take-le j new (omega arith) in
     rw (add-one, take-suc new j 0 l, ← e) (rw long at (written_more (take j new) old v (omega arith)))
 
--- after j words of n blocks: the first block without a word, and how many bits before it are 1
-pub record Writing (hop : ℕ → ℕ) (n first j before : ℕ) (words₀ bases₀ words bases : List ℕ) : Type 0 where
+-- after j words of n blocks: how many bits before the first block without a word are 1
+pub record Writing (hop : ℕ → ℕ) (n j before : ℕ) (words₀ bases₀ words bases : List ℕ) : Type 0 where
   pub few : n ≤ 65536
   pub room : words_for n ≤ length words₀
   pub base_room : words_for n ≤ length bases₀
   pub as_long : length words ≡ length words₀
   pub bases_as_long : length bases ≡ length bases₀
-  pub upto : j ≤ words_for n
-  pub first_is : first ≡ 16 * j
-  pub before_is : before ≡ counted (bit hop n) 0 first
+  pub before_is : before ≡ counted (bit hop n) 0 (16 * j)
   pub words_are : words ≡ written (take j (code_words hop n)) words₀
   pub bases_are : bases ≡ written (take j (bases_from 0 (code_words hop n))) bases₀
 
 pub writing_start : {hop : ℕ → ℕ} {n : ℕ} {words bases : List ℕ} → n ≤ 65536 → words_for n ≤ length words → words_for n ≤ length bases
-    → Writing hop n 0 0 0 words bases words bases
+    → Writing hop n 0 0 words bases words bases
 unfolding written
 writing_start f l m = record {
   few = f;
@@ -48,21 +46,15 @@ writing_start f l m = record {
   base_room = m;
   as_long = refl;
   bases_as_long = refl;
-  upto = omega arith;
-  first_is = refl;
   before_is = rw (counted_is, picked_none);
   words_are = refl;
   bases_are = refl;
 }
 
-module _ {hop : ℕ → ℕ} {n first j before : ℕ} {words₀ bases₀ words bases : List ℕ}
-    (w : Writing hop n first j before words₀ bases₀ words bases) where
+module _ {hop : ℕ → ℕ} {n j before : ℕ} {words₀ bases₀ words bases : List ℕ}
+    (w : Writing hop n j before words₀ bases₀ words bases) where
   -- all blocks have their word
-  module _ (past : n ≤ first) where
-    all : j ≡ words_for n
-    unfolding words_for
-    all = omega (arith, w.first_is, w.upto)
-
+  module _ (all : j ≡ words_for n) where
     pub all_words : words ≡ written (code_words hop n) words₀
     all_words = w.words_are ∙ rw (take_all j (code_words hop n) (omega (arith, all, length_code_words hop n)))
 
@@ -70,46 +62,50 @@ module _ {hop : ℕ → ℕ} {n first j before : ℕ} {words₀ bases₀ words b
     all_bases = w.bases_are ∙ rw (take_all j (bases_from 0 (code_words hop n)) (omega (arith, all, length_code_bases hop n)))
 
   -- a block has none
-  module _ (more : first < n) where
-    one_more : j < words_for n
+  module _ (more : j < words_for n) where
+    pub few_words : j < 4096
     unfolding words_for
-    one_more = omega (arith, w.first_is)
+    few_words = omega (arith, w.few)
+
+    pub block_there : 16 * j < n
+    unfolding words_for
+    block_there = omega arith
 
     pub word_fits : j < length words
-    word_fits = omega (arith, one_more, w.room, w.as_long)
+    word_fits = omega (arith, w.room, w.as_long)
 
     pub base_fits : j < length bases
-    base_fits = omega (arith, one_more, w.base_room, w.bases_as_long)
+    base_fits = omega (arith, w.base_room, w.bases_as_long)
 
     next_base : before ≡ get_or (bases_from 0 (code_words hop n)) j 0
-    next_base = rw (code_base_at hop n j one_more, ← w.first_is) w.before_is
+    next_base = rw (code_base_at hop n j more) w.before_is
 
-    next_word : word_from (bit hop n) 16 first ≡ get_or (code_words hop n) j 0
-    next_word = let here : j * 16 ≡ first = omega (arith, w.first_is) in sym (rw here at (code_word_at hop n j one_more))
+    next_word : word_from (bit hop n) 16 (16 * j) ≡ get_or (code_words hop n) j 0
+    next_word = let here : j * 16 ≡ 16 * j = omega arith in sym (rw here at (code_word_at hop n j more))
 
     pub before_fits : before < 65536
-    before_fits = rw next_base (code_base_small hop n j one_more w.few)
+    before_fits = rw next_base (code_base_small hop n j more w.few)
 
-    pub writing_on : {word its-ones : ℕ} → word ≡ word_from (bit hop n) 16 first → its-ones ≡ ones word
-        → Writing hop n (first + 16) (j + 1) (before + its-ones) words₀ bases₀ (set words j word) (set bases j before)
-    writing_on {word} e f = record {
-      few = w.few;
-      room = w.room;
-      base_room = w.base_room;
-      as_long = length-set words j word ∙ w.as_long;
-      bases_as_long = length-set bases j before ∙ w.bases_as_long;
-      upto = omega (arith, one_more);
-      first_is = omega (arith, w.first_is);
-      before_is = rw (w.before_is, f, e, ones_word, counted_cut, zero-add);
-      words_are =
-          rw w.words_are (written_next (code_words hop n) words₀ j word long (rw length_code_words w.room) (e ∙ next_word));
-      bases_are =
-          rw w.bases_are
-          (written_next (bases_from 0 (code_words hop n)) bases₀ j before base_long (rw length_code_bases w.base_room) next_base);
-    }
+    pub writing_on : {word its-ones : ℕ} → word ≡ word_from (bit hop n) 16 (16 * j) → its-ones ≡ ones word
+        → Writing hop n (j + 1) (before + its-ones) words₀ bases₀ (set words j word) (set bases j before)
+    writing_on {word} e f =
+        let next : 16 * (j + 1) ≡ 16 * j + 16 = omega arith in
+        record {
+          few = w.few;
+          room = w.room;
+          base_room = w.base_room;
+          as_long = length-set words j word ∙ w.as_long;
+          bases_as_long = length-set bases j before ∙ w.bases_as_long;
+          before_is = rw (w.before_is, f, e, ones_word, next, counted_cut, zero-add);
+          words_are =
+              rw w.words_are (written_next (code_words hop n) words₀ j word long (rw length_code_words w.room) (e ∙ next_word));
+          bases_are =
+              rw w.bases_are
+              (written_next (bases_from 0 (code_words hop n)) bases₀ j before base_long (rw length_code_bases w.base_room) next_base);
+        }
       where
         long : j < length (code_words hop n)
-        long = rw length_code_words one_more
+        long = rw length_code_words more
 
         base_long : j < length (bases_from 0 (code_words hop n))
-        base_long = rw length_code_bases one_more
+        base_long = rw length_code_bases more

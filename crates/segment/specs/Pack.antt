@@ -1,12 +1,12 @@
 -- Rule 9.9: packing checks the pair (11, 14), and returns 13 if one of its three slices is shorter than what goes into it. Else it writes
 -- words, bases and hops, and returns the width and how many words and hops there are.
 -- Assumes nothing.
-use Rattle.std.specs.Prelude.{List, [], ◌∷◌, ◌++◌, ℕ, length, ltb}
-use Rattle.ground.specs.Numbers.{Check, check, outcome, done, ill_formed, no_room, not_its_runs}
+use Rattle.std.specs.Prelude.{Result, Ok, Err, List, [], ◌∷◌, ◌++◌, ℕ, length, ltb}
+use Rattle.ground.specs.declared.Refusal.{Refusal}
+use Rattle.ground.specs.Numbers.{Check, check, outcome, number_of, done, no_room}
 use Rattle.ground.specs.Slots.{written}
 use Rattle.runs.specs.Pair.{Pair, list_of, pair_checks}
-use Rattle.segment.specs.declared.Packing.{Packing}
-use Rattle.segment.specs.declared.Packing.TheVariants.{Done, IllFormed, NotItsRuns, NoRoom}
+use Rattle.segment.specs.declared.Packed.{Packed}
 use Rattle.segment.specs.Packed.{width, words_of, bases_of, packed_hops_of}
 
 -- the three slices that a packing is lent for words, bases and hops
@@ -58,9 +58,14 @@ unfoldable pub pack : ℕ → Pair → PackLent → PackOutcome
 pack q p l = outcome (pack_checks q p l) (pack_refused l) (pack_done q p l)
 
 -- the same, read from the code's answer and the slices at exit
-abbrev pub pack_gave : Packing → List ℕ → List ℕ → List ℕ → PackOutcome
-pack_gave (Done w n m) words bases hops =
-    record { number = done; width = w; word_count = n; hop_count = m; words = words; bases = bases; hops = hops }
-pack_gave IllFormed words bases hops = pack_refused (pack_lent words bases hops) ill_formed
-pack_gave NotItsRuns words bases hops = pack_refused (pack_lent words bases hops) not_its_runs
-pack_gave NoRoom words bases hops = pack_refused (pack_lent words bases hops) no_room
+abbrev pub pack_gave : Result Packed Refusal → List ℕ → List ℕ → List ℕ → PackOutcome
+pack_gave (Ok p) words bases hops = record {
+  number = done;
+  width = p.width;
+  word_count = p.words;
+  hop_count = p.hops;
+  words = words;
+  bases = bases;
+  hops = hops;
+}
+pack_gave (Err e) words bases hops = pack_refused (pack_lent words bases hops) (number_of e)

@@ -3,36 +3,25 @@
 // business.
 #![tactic(auto)]
 
-ghost use Rattle.std.specs.Prelude.{◌≡◌, true, not, ◌+◌, ◌-◌, ◌*◌, ◌^◌, ◌≤◌, ◌<◌, length, eqb};
+ghost use Rattle.std.specs.Prelude.{◌≡◌, true, not, ◌+◌, ◌-◌, ◌*◌, ◌^◌, ◌≤◌, ◌<◌, min, length, eqb};
 ghost use Rattle.std.specs.Int.Count.{ones};
 ghost use Rattle.ground.specs.Column.{ascends};
 ghost use Rattle.ground.specs.Slots.{written};
 ghost use Rattle.routes.specs.Row.{list_lent};
 ghost use Rattle.runs.specs.Table.{runs_lent};
 ghost use Rattle.runs.specs.Pair.{pair};
-ghost use Rattle.segment.specs.Packed.{bit_value, words_for, code_words, bases_from, kept_hops};
+ghost use Rattle.segment.specs.Packed.{bit, bit_value, word_from, words_for, code_words, bases_from, kept_hops};
 ghost use Rattle.segment.specs.Pack.{pack_lent, pack_gave, pack};
-ghost use Rattle.segment.specs.Inside.Blocks.{Runs, begun, hop_in, Ahead, Stands, Before, Grid, WordMade, pack_blocks};
+ghost use Rattle.segment.specs.Inside.Blocks.{Runs, begun, hop_in, Stands, Before, Grid, pack_blocks};
 ghost use Rattle.segment.specs.Inside.Width.{width_in};
 
-use runs::Paired;
+use ground::Refusal;
 
-// Where the walk over the blocks stands: how many runs have begun, and the hop of the last block.
+// Where the walk over the blocks stands: how many runs have begun, and the hop of the last of them.
 #[derive(Clone, Copy)]
 struct Walk {
     begun: usize,
-    hop: u32,
-}
-
-// A number that no hop is.
-const NO_HOP: u32 = 65536;
-
-// A hop as the slices hold it.
-fn hop_of(hop: u32) -> u16
-    requires { hop < 65536 }
-    ensures { result ≡ hop }
-{
-    hop as u16
+    hop: u16,
 }
 
 // The ones of a whole word.
@@ -43,68 +32,90 @@ fn ones_of(word: u16) -> u32
 }
 
 // How many runs begin at an address or before it, of which some are known.
+#[tactic(auto, using(crate::proofs::Walking::begun_walk))]
 fn begun_at(starts: &[u32], known: usize, at: u64) -> usize
     requires { (ascends starts.now ≡ true) × (known ≤ begun starts.now at) }
     ensures { result ≡ begun starts.now at }
 {
-    let mut n = known;
-    while n < starts.len() {
-        if at < starts[n] as u64 {
+    for n in known..starts.len() {
+        if at < u64::from(starts[n]) {
             return n;
         }
-        n += 1;
     }
-    n
+    starts.len()
 }
 
-// The walk goes on to an address.
-fn walk_to(starts: &[u32], rhops: &[u16], s: Walk, at: u64) -> Walk
-    requires { Runs starts.now rhops.now × Ahead starts.now at s }
-    ensures { Stands starts.now rhops.now at result }
-{
-    let begun = begun_at(starts, s.begun, at);
-    Walk {
-        begun,
-        hop: rhops[begun - 1] as u32,
-    }
-}
-
-// The bit of a block, by its hop and that of the block before.
-fn bit_of(hop: u32, last: u32) -> u16
-    ensures { (result ≡ bit_value (not (eqb hop last))) × (result ≤ 1) }
-{
-    if hop != last { 1 } else { 0 }
-}
-
-// A code word, and where the walk stands after its blocks.
-#[derive(Clone, Copy)]
-struct Word {
-    word: u16,
-    walk: Walk,
-}
-
-// The code word of 16 blocks from `first` on: the first one's bit is highest, a bit is 1 where the hop isn't that of the block before, and
-// a bit without a block is 0.
-fn word_at(starts: &[u32], rhops: &[u16], s: Walk, base: u64, size: u64, n: u64, first: u64) -> Word
-    requires { Runs starts.now rhops.now × Grid base size n × Before starts.now rhops.now base size first s × (first < n) }
-    ensures { WordMade starts.now rhops.now base size n first result }
-{
-    let mut word: u16 = 0;
-    let mut walk = s;
-    let mut at = base + first * size;
-    let mut seen = 0;
-    while seen < 16 {
-        if first + seen < n {
-            let next = walk_to(starts, rhops, walk, at);
-            word = word * 2 + bit_of(next.hop, walk.hop);
-            walk = next;
-            at += size;
-        } else {
-            word *= 2;
+impl Walk {
+    // The walk stands at an address.
+    #[tactic(auto, using(crate::proofs::Walking::walked))]
+    fn from(starts: &[u32], rhops: &[u16], at: u64) -> Walk
+        requires { Runs starts.now rhops.now × (at < 4294967296) }
+        ensures { Stands starts.now rhops.now at result }
+    {
+        let begun = halving::lower(starts, at + 1);
+        Walk {
+            begun,
+            hop: rhops[begun - 1],
         }
-        seen += 1;
     }
-    Word { word, walk }
+
+    // The walk goes on to an address: whether the hop there is another one.
+    #[tactic(auto, using(crate::proofs::Walking::walked))]
+    fn go_on(&mut self, starts: &[u32], rhops: &[u16], at: u64) -> bool
+        requires { Runs starts.now rhops.now × (self.old.begun ≤ begun starts.now at) }
+        ensures stands { Stands starts.now rhops.now at self.new }
+        ensures other { result ≡ not (eqb self.new.hop self.old.hop) }
+    {
+        let last = self.hop;
+        self.begun = begun_at(starts, self.begun, at);
+        self.hop = rhops[self.begun - 1];
+        self.hop != last
+    }
+}
+
+// The bit of a block, 1 for the first block and where the hop isn't that of the block before. A bit without a block is 0.
+fn bit_at(
+    starts: &[u32],
+    rhops: &[u16],
+    walk: &mut Walk,
+    base: u64,
+    size: u64,
+    n: u64,
+    block: u64,
+) -> u16
+    requires { Runs starts.now rhops.now × Grid base size n × Before starts.now rhops.now base size (min block n) walk.old }
+    ensures bit { result ≡ bit_value (bit (hop_in starts.now rhops.now base size) n block) }
+    ensures few { result ≤ 1 }
+    ensures next { Before starts.now rhops.now base size (min (block + 1) n) walk.new }
+{
+    if block == 0 {
+        return 1;
+    }
+    if n <= block {
+        return 0;
+    }
+    u16::from(walk.go_on(starts, rhops, base + block * size))
+}
+
+// The code word of 16 blocks from `first` on, of which the first one's bit is highest.
+fn word_at(
+    starts: &[u32],
+    rhops: &[u16],
+    walk: &mut Walk,
+    base: u64,
+    size: u64,
+    n: u64,
+    first: u64,
+) -> u16
+    requires { Runs starts.now rhops.now × Grid base size n × Before starts.now rhops.now base size (min first n) walk.old × (first < n) }
+    ensures word { result ≡ word_from (bit (hop_in starts.now rhops.now base size) n) 16 first }
+    ensures next { Before starts.now rhops.now base size (min (first + 16) n) walk.new }
+{
+    let mut word = 0;
+    for block in first..first + 16 {
+        word = word * 2 + bit_at(starts, rhops, walk, base, size, n, block);
+    }
+    word
 }
 
 // The code words of all blocks and their bases, from the front of two slices. All 65,536 bits may be 1, so the ones are counted in 32 bits,
@@ -112,7 +123,7 @@ fn word_at(starts: &[u32], rhops: &[u16], s: Walk, base: u64, size: u64, n: u64,
 fn write_words(
     starts: &[u32],
     rhops: &[u16],
-    s: Walk,
+    mut walk: Walk,
     base: u64,
     size: u64,
     n: u64,
@@ -121,108 +132,91 @@ fn write_words(
 )
     requires { Runs starts.now rhops.now
         × Grid base size n
-        × Before starts.now rhops.now base size 0 s
+        × Before starts.now rhops.now base size 0 walk
         × (words_for n ≤ length words.old)
         × (words_for n ≤ length bases.old) }
     ensures { (words.new ≡ written (code_words (hop_in starts.now rhops.now base size) n) words.old)
         × (bases.new
         ≡ written (bases_from 0 (code_words (hop_in starts.now rhops.now base size) n)) bases.old) }
 {
-    let mut walk = s;
-    let mut first = 0;
-    let mut j = 0;
     let mut ones: u32 = 0;
-    while first < n {
-        let made = word_at(starts, rhops, walk, base, size, n, first);
-        words[j] = made.word;
+    for j in 0..words_for(n) {
+        let word = word_at(starts, rhops, &mut walk, base, size, n, 16 * j as u64);
+        words[j] = word;
         bases[j] = ones as u16;
-        ones += ones_of(made.word);
-        walk = made.walk;
-        j += 1;
-        first += 16;
+        ones += ones_of(word);
     }
 }
 
-// How many hops are kept: one for each block whose hop isn't that of the block before.
-fn count_hops(starts: &[u32], rhops: &[u16], s: Walk, base: u64, size: u64, n: u64) -> usize
-    requires { Runs starts.now rhops.now × Grid base size n × Before starts.now rhops.now base size 0 s }
+// How many hops are kept: one for the first block, and one for each later block whose hop isn't that of the block before.
+fn count_hops(starts: &[u32], rhops: &[u16], mut walk: Walk, base: u64, size: u64, n: u64) -> usize
+    requires { Runs starts.now rhops.now × Grid base size n × Before starts.now rhops.now base size 0 walk }
     ensures { result ≡ length (kept_hops (hop_in starts.now rhops.now base size) n) }
 {
-    let mut walk = s;
     let mut at = base;
-    let mut block = 0;
-    let mut kept = 0;
-    while block < n {
-        let next = walk_to(starts, rhops, walk, at);
-        if next.hop != walk.hop {
+    let mut kept = 1;
+    for _ in 1..n {
+        at += size;
+        if walk.go_on(starts, rhops, at) {
             kept += 1;
         }
-        walk = next;
-        at += size;
-        block += 1;
     }
     kept
 }
 
 // The kept hops, from the front of a slice.
-fn write_hops(starts: &[u32], rhops: &[u16], s: Walk, base: u64, size: u64, n: u64, out: &mut [u16])
+fn write_hops(
+    starts: &[u32],
+    rhops: &[u16],
+    mut walk: Walk,
+    base: u64,
+    size: u64,
+    n: u64,
+    out: &mut [u16],
+)
     requires { Runs starts.now rhops.now
         × Grid base size n
-        × Before starts.now rhops.now base size 0 s
+        × Before starts.now rhops.now base size 0 walk
         × (length (kept_hops (hop_in starts.now rhops.now base size) n) ≤ length out.old) }
     ensures { out.new ≡ written (kept_hops (hop_in starts.now rhops.now base size) n) out.old }
 {
-    let mut walk = s;
+    out[0] = walk.hop;
     let mut at = base;
-    let mut block = 0;
-    let mut kept = 0;
-    while block < n {
-        let next = walk_to(starts, rhops, walk, at);
-        if next.hop != walk.hop {
-            out[kept] = hop_of(next.hop);
+    let mut kept = 1;
+    for _ in 1..n {
+        at += size;
+        if walk.go_on(starts, rhops, at) {
+            out[kept] = walk.hop;
             kept += 1;
         }
-        walk = next;
-        at += size;
-        block += 1;
     }
 }
 
 // The width of a segment, from the keys of a list: they ascend, so those of the segment stand side by side, and the first is found by
 // halving.
-#[tactic(auto, using(crate::proofs::Widening::widening_start, crate::proofs::Widening::widening_end, crate::proofs::Widening::widening_behind, crate::proofs::Widening::widening_on))]
+#[tactic(auto, using(crate::proofs::Widening::widening))]
 fn width_of(keys: &[u64], q: u64) -> u64
     requires { (ascends keys.now ≡ true) × (q < 65536) }
     ensures { result ≡ width_in q keys.now }
 {
     let first = q * 4194304;
-    let mut i = halving::column64::lower(keys, first);
+    let start = halving::lower(keys, first);
     let mut width = 0;
-    while i < keys.len() {
-        let key = keys[i];
-        if first + 4194304 <= key {
+    for key in &keys[start..] {
+        if first + 4194304 <= *key {
             return width;
         }
-        let len = key % 64;
-        if 16 + width < len {
-            width = len - 16;
-        }
-        i += 1;
+        width = width.max((key % 64).saturating_sub(16));
     }
     width
 }
 
-// What packing gives: the width with the counts of words and of hops, 11, 14, or 13.
-#[derive(Clone, Copy)]
-pub enum Packing {
-    Done {
-        width: u64,
-        words: usize,
-        hops: usize,
-    },
-    IllFormed,
-    NotItsRuns,
-    NoRoom,
+// What packing gives: the width with the counts of words and of hops.
+#[derive(Clone, Copy, Debug, PartialEq, Eq)]
+pub struct Packed {
+    pub width: u64,
+    pub words: usize,
+    pub hops: usize,
 }
 
 // A power of two, to 2^16.
@@ -230,11 +224,11 @@ fn power(exponent: u64) -> u64
     requires { exponent ≤ 16 }
     ensures { result ≡ 2 ^ exponent }
 {
-    let one: u64 = 1;
-    one << exponent
+    1 << exponent
 }
 
 // How many words n bits take.
+#[tactic(auto, unfolding(crate::specs::Packed::words_for))]
 fn words_for(n: u64) -> usize
     requires { n ≤ 65536 }
     ensures { result ≡ words_for n }
@@ -243,6 +237,7 @@ fn words_for(n: u64) -> usize
 }
 
 // The blocks of a segment whose width is known, packed into lent words, bases and hops: all is measured before the first write.
+#[tactic(auto, using(crate::proofs::PackLaws::blocks_packed))]
 fn pack_blocks(
     starts: &[u32],
     rhops: &[u16],
@@ -251,7 +246,7 @@ fn pack_blocks(
     words: &mut [u16],
     bases: &mut [u16],
     out: &mut [u16],
-) -> Packing
+) -> Result<Packed, Refusal>
     requires { Runs starts.now rhops.now × (width ≤ 16) × (base + 65536 ≤ 4294967296) }
     ensures { pack_gave result words.new bases.new out.new
         ≡ pack_blocks width (hop_in starts.now rhops.now base (2 ^ (16 - width)))
@@ -260,27 +255,21 @@ fn pack_blocks(
     let n = power(width);
     let size = power(16 - width);
     let count = words_for(n);
-    if words.len() < count {
-        return Packing::NoRoom;
+    if words.len() < count || bases.len() < count {
+        return Err(Refusal::NoRoom);
     }
-    if bases.len() < count {
-        return Packing::NoRoom;
-    }
-    let s = Walk {
-        begun: halving::column32::lower(starts, base + 1),
-        hop: NO_HOP,
-    };
-    let kept = count_hops(starts, rhops, s, base, size, n);
+    let walk = Walk::from(starts, rhops, base);
+    let kept = count_hops(starts, rhops, walk, base, size, n);
     if out.len() < kept {
-        return Packing::NoRoom;
+        return Err(Refusal::NoRoom);
     }
-    write_words(starts, rhops, s, base, size, n, words, bases);
-    write_hops(starts, rhops, s, base, size, n, out);
-    Packing::Done {
+    write_words(starts, rhops, walk, base, size, n, words, bases);
+    write_hops(starts, rhops, walk, base, size, n, out);
+    Ok(Packed {
         width,
         words: count,
         hops: kept,
-    }
+    })
 }
 
 // One segment of a list and its run table that are known to agree: the work after the pair check, which is that of the segment alone.
@@ -292,7 +281,7 @@ fn pack_segment(
     words: &mut [u16],
     bases: &mut [u16],
     out: &mut [u16],
-) -> Packing
+) -> Result<Packed, Refusal>
     requires { (q < 65536) × (ascends keys.now ≡ true) × (width_in q keys.now ≤ 16) × Runs starts.now rhops.now }
     ensures { pack_gave result words.new bases.new out.new
         ≡ pack_blocks (width_in q keys.now)
@@ -303,7 +292,7 @@ fn pack_segment(
     pack_blocks(starts, rhops, q * 65536, width, words, bases, out)
 }
 
-// Segment q of a list and its run table into lent words, bases and hops.
+// Segment q of a list and its run table into lent words, bases and hops; 11 or 14 for a pair that doesn't agree, 13 for too little room.
 pub fn pack(
     q: u16,
     count: usize,
@@ -315,23 +304,20 @@ pub fn pack(
     words: &mut [u16],
     bases: &mut [u16],
     out: &mut [u16],
-) -> Packing
+) -> Result<Packed, Refusal>
     ensures { pack_gave result words.new bases.new out.new
         ≡ pack q
         (pair (list_lent count keys.now hops.now) (runs_lent runs starts.now rhops.now))
         (pack_lent words.old bases.old out.old) }
 {
-    match runs::pair_check(count, keys, hops, runs, starts, rhops) {
-        Paired::IllFormed => Packing::IllFormed,
-        Paired::NotItsRuns => Packing::NotItsRuns,
-        Paired::Agreed => pack_segment(
-            q as u64,
-            &keys[..count],
-            &starts[..runs],
-            &rhops[..runs],
-            words,
-            bases,
-            out,
-        ),
-    }
+    runs::pair_check(count, keys, hops, runs, starts, rhops)?;
+    pack_segment(
+        u64::from(q),
+        &keys[..count],
+        &starts[..runs],
+        &rhops[..runs],
+        words,
+        bases,
+        out,
+    )
 }

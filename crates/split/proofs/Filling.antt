@@ -2,12 +2,13 @@
 -- others in what is left is the whole.
 -- Assumes nothing.
 use mathlib.Core.Path.{◌≡◌, refl, sym, ap, ◌∙◌}
-use mathlib.Core.List.{List, [], ◌∷◌, ◌++◌, append-nil}
+use mathlib.Core.List.{List, [], ◌∷◌, append-nil}
 use Prim.Native.Nat.{ℕ, ◌+◌, ◌-◌, ◌≤◌, ◌<◌}
 use native.Mathlib.Numerals.{add-one}
 use native.Mathlib.Omega.{arith}
-use lib.ListN.{length, get_or, take, drop, set, length-take, drop_of_length-le}
+use lib.ListN.{length, get_or, take, drop, set, length-take, length-drop, drop_of_length-le}
 use lib.Seq.{take-suc, take_all}
+use borrow.Rule.Slice.PartMut.{put_mid, mid_of}
 use Rattle.ground.specs.Slots.{written}
 use Rattle.ground.proofs.Slots.{length_written, written_more}
 
@@ -42,10 +43,20 @@ module _ {xs old out : List ℕ} {i : ℕ} (f : Filling xs old out i) where
   pub filling_end : length xs ≤ i → out ≡ written xs old
   filling_end l = f.is ∙ ap (λ ys. written ys old) (take_all i xs l)
 
-pub first_then : (old : List ℕ) (v : ℕ) {k : ℕ} (xs : List ℕ) {part : List ℕ} → 0 < length old → k ≡ length (set old 0 v) - 1
-    → part ≡ written xs (take k (drop 1 (set old 0 v)))
-    → take 1 (set old 0 v) ++ (part ++ drop k (drop 1 (set old 0 v))) ≡ written (v ∷ xs) old
+-- a first number, and the numbers from a place on behind it
+pub first_copied : (old : List ℕ) (v n k : ℕ) (xs part : List ℕ) → k ≤ length xs → length xs - k < length old
+    → n ≡ length (mid_of k (length xs - k) xs) + 1 - 1 → part ≡ mid_of k (length xs - k) xs
+    → put_mid 1 n (set old 0 v) part ≡ written (v ∷ drop k xs) old
 unfolding written
-first_then [] v xs l e p = absurd (omega arith)
-first_then (o ∷ os) v {k} xs l e p =
-    rw (p, take_all k os (omega arith), drop_of_length-le os {i = k} (omega arith), append-nil)
+first_copied [] v n k xs part w l e p = absurd (omega arith)
+first_copied (o ∷ os) v n k xs part w l e p =
+    let all = take_all (length xs - k) (drop k xs) (simp length-drop (omega arith)) in
+    let long : n ≡ length (drop k xs) = e ∙ rw all (omega arith) in
+    rw (p, all, long)
+
+pub first_then : (old : List ℕ) (v n : ℕ) (xs part : List ℕ) → 0 < length old → n ≡ length (set old 0 v) - 1
+    → part ≡ written xs (mid_of 1 n (set old 0 v)) → put_mid 1 n (set old 0 v) part ≡ written (v ∷ xs) old
+unfolding written
+first_then [] v n xs part l e p = absurd (omega arith)
+first_then (o ∷ os) v n xs part l e p =
+    rw (p, take_all n os (omega arith), drop_of_length-le os {i = n} (omega arith), append-nil)

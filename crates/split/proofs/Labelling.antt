@@ -29,7 +29,7 @@ use Rattle.split.specs.Split.{relabelled, first_half}
 use Rattle.split.specs.Inside.Labels.{AllOpen, Labelled, labels_from}
 use Rattle.split.proofs.Halves.{first_half_good}
 use Rattle.split.proofs.Covering.{label_is}
-use Rattle.split.proofs.Filling.{Filling, filling_start, slot_free, filling_next, filling_end}
+use Rattle.split.proofs.Filling.{Filling, filling_start, filling_next, filling_end}
 
 -- what a function makes of a list, at a place
 map_at : {A B : Type 0} (f : A → B) (xs : List A) (i : ℕ) (d : A) (e : B) → i < length xs → get_or (map f xs) i e ≡ f (get_or xs i d)
@@ -83,40 +83,36 @@ module _ {keys hops : List ℕ} (s : Sorted keys hops) {k : ℕ} (within : k ≤
       ∙ ap (λ r. r.hop) (map_at (relabelled (first_half k rows)) (drop k rows) slot d d left ∙ label)
       ∙ rw here
 
--- Where the walk stands: at row i, with `slot` labels written.
-pub record Labelling (keys hops : List ℕ) (k : ℕ) (old labels ends open-hops : List ℕ) (row depth at slot i : ℕ) : Type 0 where
+-- Where the walk stands: at row i, with the labels of the rows before it written.
+pub record Labelling (keys hops : List ℕ) (k : ℕ) (old labels ends open-hops : List ℕ) (row depth at i : ℕ) : Type 0 where
   pub stack : Stack (take k keys) (take k hops) ends open-hops row depth at (at + 1)
   pub all : row ≡ length (take k keys)
   pub behind : (j : ℕ) → i ≤ j → j < length keys → at ≤ network (get_or keys j 0)
-  pub filling : Filling (labels_from k (all_rows keys hops)) old labels slot
-  pub place : i ≡ k + slot
+  pub filling : Filling (labels_from k (all_rows keys hops)) old labels (i - k)
+  pub from : k ≤ i
 
 module _ {keys hops : List ℕ} (s : Sorted keys hops) {k : ℕ} where
   pub labelling_start : {labels ends open-hops : List ℕ} {row depth at : ℕ} → Labelled k keys labels
       → AllOpen (take k keys) (take k hops) ends open-hops row depth at
-      → Labelling keys hops k labels labels ends open-hops row depth at 0 k
-  labelling_start l o = record {
-    stack = o.stack;
-    all = o.all;
-    behind = λ j m lt. o.reached (network (get_or keys j 0)) (first_behind s l.within j m lt);
-    filling = filling_start _ _ (omega (arith, labels_long s l.within, l.room));
-    place = omega arith;
-  }
+      → Labelling keys hops k labels labels ends open-hops row depth at k
+  labelling_start l o =
+      let none : k - k ≡ 0 = omega arith in
+      record {
+        stack = o.stack;
+        all = o.all;
+        behind = λ j m lt. o.reached (network (get_or keys j 0)) (first_behind s l.within j m lt);
+        filling = rw none (filling_start _ _ (omega (arith, labels_long s l.within, l.room)));
+        from = omega arith;
+      }
 
-  module _ (within : k ≤ length keys) {old labels ends open-hops : List ℕ} {row depth at slot i : ℕ}
-      (w : Labelling keys hops k old labels ends open-hops row depth at slot i) where
+  module _ (within : k ≤ length keys) {old labels ends open-hops : List ℕ} {row depth at i : ℕ}
+      (w : Labelling keys hops k old labels ends open-hops row depth at i) where
     module _ (l : i < length keys) where
-      pub free_slot : slot < length labels
-      free_slot = slot_free w.filling (omega (arith, labels_long s within, w.place))
-
-      pub few_slots : slot < length keys
-      few_slots = omega (arith, w.place)
-
       module _ {to : ℕ} (here : to ≡ network (get_or keys i 0)) where
-        pub may_go : Sorted (take k keys) (take k hops) × Stack (take k keys) (take k hops) ends open-hops row depth at to × (at ≤ to)
+        pub may_go : Stack (take k keys) (take k hops) ends open-hops row depth at to × (at ≤ to)
         may_go =
             let first = first_sorted s within in
-            (first, onward first w.stack to (λ m. absurd (omega (arith, w.all))), omega (arith, w.behind i (omega arith) l))
+            (onward first w.stack to (λ m. absurd (omega (arith, w.all))), omega (arith, w.behind i (omega arith) l))
 
         module _ {ends' open-hops' : List ℕ} {row' depth' at' : ℕ}
             (moved : (at' ≡ to) × Stack (take k keys) (take k hops) ends' open-hops' row' depth' to (to + 1)) where
@@ -128,7 +124,7 @@ module _ {keys hops : List ℕ} (s : Sorted keys hops) {k : ℕ} where
           still_all = ⊎_elim
               (λ q. omega (arith, leb-true (length (take k keys)) row' q, moved.1.within))
               (λ q. let lt = leb-false (length (take k keys)) row' q in
-              absurd (omega (arith, moved.1.ahead row' (omega arith) lt, first_behind s within i (omega (arith, w.place)) l row' lt)))
+              absurd (omega (arith, moved.1.ahead row' (omega arith) lt, first_behind s within i w.from l row' lt)))
               (decided (leb (length (take k keys)) row'))
 
           -- the last open hop is the first half's plain answer
@@ -139,15 +135,18 @@ module _ {keys hops : List ℕ} (s : Sorted keys hops) {k : ℕ} where
               ∙ ap (λ rs. plain rs to) (first_rows s within)
 
           pub labelling_next : {hop : ℕ} → hop ≡ last_or 0 (take depth' open-hops')
-              → Labelling keys hops k old (set labels slot (bit_xor (get_or hops i 0) hop)) ends' open-hops' row' depth' at' (slot + 1) (i + 1)
-          labelling_next {hop} e = record {
-            stack = rw moved.0 moved.1;
-            all = still_all;
-            behind = λ j m lt. omega (arith, moved.0, network_climbs s within i j (omega arith) lt);
-            filling = filling_next w.filling (omega (arith, labels_long s within, w.place))
-                (rw (e, last_open, here, w.place) (sym (label_at s within slot (omega (arith, w.place)))));
-            place = omega (arith, w.place);
-          }
+              → Labelling keys hops k old (set labels (i - k) (bit_xor (get_or hops i 0) hop)) ends' open-hops' row' depth' at' (i + 1)
+          labelling_next {hop} e =
+              let more : i + 1 - k ≡ i - k + 1 = omega (arith, w.from) in
+              let there : k + (i - k) ≡ i = omega (arith, w.from) in
+              record {
+                stack = rw moved.0 moved.1;
+                all = still_all;
+                behind = λ j m lt. omega (arith, moved.0, network_climbs s within i j (omega arith) lt);
+                filling = rw more (filling_next w.filling (omega (arith, labels_long s within, w.from))
+                    (rw (e, last_open, here) (rw there at (sym (label_at s within (i - k) (omega (arith, w.from)))))));
+                from = omega (arith, w.from);
+              }
 
     pub labelling_end : length keys ≤ i → labels ≡ written (labels_from k (all_rows keys hops)) old
-    labelling_end l = filling_end w.filling (omega (arith, labels_long s within, w.place))
+    labelling_end l = filling_end w.filling (omega (arith, labels_long s within, w.from))

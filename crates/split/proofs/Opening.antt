@@ -3,7 +3,7 @@
 use mathlib.Core.Path.{◌≡◌}
 use mathlib.Core.Logic.{⊎_elim}
 use mathlib.Core.List.{List}
-use Prim.Native.Nat.{ℕ, ◌+◌, ◌-◌, ◌≤◌, ◌<◌}
+use Prim.Native.Nat.{ℕ, ◌+◌, ◌≤◌, ◌<◌}
 use native.Mathlib.Omega.{arith}
 use lib.ListN.{length, get_or}
 use lib.Dec.{leb}
@@ -30,8 +30,8 @@ opening_start s e = record {
 
 module _ {keys hops ends open-hops : List ℕ} {row depth at to : ℕ} (o : Opening keys hops ends open-hops row depth at)
     (l : row < length keys) (here : to ≡ network (get_or keys row 0)) where
-  pub may_step : Sorted keys hops × Stack keys hops ends open-hops row depth at to × (at ≤ to)
-  may_step = (o.sorted, onward o.sorted o.stack to (λ m. omega arith), omega (arith, o.stack.ahead row (omega arith) l))
+  pub may_step : Stack keys hops ends open-hops row depth at to × (at ≤ to)
+  may_step = (onward o.sorted o.stack to (λ m. omega arith), omega (arith, o.stack.ahead row (omega arith) l))
 
   module _ {ends' open-hops' : List ℕ} {row' depth' at' : ℕ}
       (moved : (at' ≡ to) × Stack keys hops ends' open-hops' row' depth' to (to + 1)) where
@@ -50,3 +50,6 @@ module _ {keys hops ends open-hops : List ℕ} {row depth at to : ℕ} (o : Open
 pub opening_end : {keys hops ends open-hops : List ℕ} {row depth at : ℕ} → Opening keys hops ends open-hops row depth at → length keys ≤ row
     → AllOpen keys hops ends open-hops row depth at
 opening_end o l = record { stack = o.stack; all = omega (arith, o.stack.within); reached = o.reached }
+
+-- what the loop goes by
+pub ruleset opens_all = (opening_start, opened_more, opening_next, opening_end)

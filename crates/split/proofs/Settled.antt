@@ -6,28 +6,23 @@ use mathlib.Core.Bool.{cond}
 use mathlib.Core.List.{List}
 use Prim.Native.Nat.{ℕ}
 use lib.Dec.{eqb}
-use Rattle.ground.specs.Numbers.{done, ill_formed, bad_size, no_default}
+use Rattle.std.proofs.Common.{Result, Ok, Err}
+use Rattle.ground.specs.declared.Refusal.{Refusal}
+use Rattle.ground.specs.Numbers.{done}
+use Rattle.ground.proofs.Numbers.{refusal_by, number_tells, number_not_done}
 use Rattle.routes.specs.Row.{ListLent}
-use Rattle.split.specs.declared.Parted.{Parted}
-use Rattle.split.specs.declared.Parted.TheVariants as P
 use Rattle.split.specs.Split.{SplitLent, SplitOutcome, split_gave, split}
 
 -- the answer can be told from the outcome
-abbrev answer_of : SplitOutcome → Parted
-answer_of o =
-    cond (eqb o.number done) (P.Rows o.count)
-    (cond (eqb o.number ill_formed) P.IllFormed
-    (cond (eqb o.number bad_size) P.BadSize (cond (eqb o.number no_default) P.NoDefault P.NoRoom)))
+abbrev answer_of : SplitOutcome → Result ℕ Refusal
+answer_of o = cond (eqb o.number done) (Ok o.count) (Err (refusal_by o.number))
 
-tells : (r : Parted) (keys labels : List ℕ)
-    → (answer_of (split_gave r keys labels) ≡ r) × ((split_gave r keys labels).keys ≡ keys) × ((split_gave r keys labels).labels ≡ labels)
-tells (P.Rows n) keys labels = (refl, refl, refl)
-tells P.IllFormed keys labels = (refl, refl, refl)
-tells P.BadSize keys labels = (refl, refl, refl)
-tells P.NoDefault keys labels = (refl, refl, refl)
-tells P.NoRoom keys labels = (refl, refl, refl)
+tells : (r : Result ℕ Refusal) (keys labels : List ℕ)
+    → let o = split_gave r keys labels in (answer_of o ≡ r) × (o.keys ≡ keys) × (o.labels ≡ labels)
+tells (Ok n) keys labels = (refl, refl, refl)
+tells (Err e) keys labels = (rw (number_not_done e, number_tells e), refl, refl)
 
-pub split_settled : (k : ℕ) (l : ListLent) (out : SplitLent) (r r' : Parted) (s s' h h' : List ℕ)
+pub split_settled : (k : ℕ) (l : ListLent) (out : SplitLent) (r r' : Result ℕ Refusal) (s s' h h' : List ℕ)
     → split_gave r s h ≡ split k l out → split_gave r' s' h' ≡ split k l out → (r ≡ r') × (s ≡ s') × (h ≡ h')
 split_settled k l out r r' s s' h h' e e' =
     let same = e ∙ sym e' in

@@ -1,17 +1,16 @@
 -- Rule 11.4: the first half of a list is its first k rows, which stay where they are. Rule 11.5: the second half is 0.0.0.0/0 with label 0
 -- and then the list's other rows, each with a label. Rule 11.7: a split writes the second half and returns its count.
 -- Assumes nothing.
-use Rattle.std.specs.Prelude.{not, ◌||◌, List, [], ◌∷◌, map, ℕ, length, take, drop, ltb, eqb}
+use Rattle.std.specs.Prelude.{not, ◌||◌, Result, Ok, Err, List, [], ◌∷◌, map, ℕ, length, take, drop, ltb, eqb}
 use Rattle.std.specs.Int.Bits.{bit_xor}
-use Rattle.ground.specs.Numbers.{Check, check, outcome, done, ill_formed, bad_size, no_default, no_room}
+use Rattle.ground.specs.declared.Refusal.{Refusal}
+use Rattle.ground.specs.Numbers.{Check, check, outcome, number_of, done, ill_formed, bad_size, no_default, no_room}
 use Rattle.ground.specs.Slots.{written}
 use Rattle.cidr.specs.Prefix.{key_of, covers}
 use Rattle.routes.specs.Row.{Row, row, ListLent, rows_lent, those, list_room, keys_of, hops_of}
 use Rattle.routes.specs.WellFormed.{well_formed}
 use Rattle.routes.specs.Plain.{longest, hop_of}
 use Rattle.routes.specs.Change.{listed}
-use Rattle.split.specs.declared.Parted.{Parted}
-use Rattle.split.specs.declared.Parted.TheVariants.{Rows, IllFormed, BadSize, NoDefault, NoRoom}
 
 -- 0.0.0.0/0
 abbrev pub default_key : ℕ
@@ -51,12 +50,9 @@ abbrev pub split_into : ℕ → ℕ → List ℕ → List ℕ → SplitOutcome
 split_into n count keys labels = record { number = n; count = count; keys = keys; labels = labels }
 
 -- the same, read from the code's answer and the slices at exit
-abbrev pub split_gave : Parted → List ℕ → List ℕ → SplitOutcome
-split_gave (Rows n) keys labels = split_into done n keys labels
-split_gave IllFormed keys labels = split_into ill_formed 0 keys labels
-split_gave BadSize keys labels = split_into bad_size 0 keys labels
-split_gave NoDefault keys labels = split_into no_default 0 keys labels
-split_gave NoRoom keys labels = split_into no_room 0 keys labels
+abbrev pub split_gave : Result ℕ Refusal → List ℕ → List ℕ → SplitOutcome
+split_gave (Ok n) keys labels = split_into done n keys labels
+split_gave (Err e) keys labels = split_into (number_of e) 0 keys labels
 
 -- Rules 11.1, 11.2, 11.3 and 11.7: the checks of a split, for 11, 17, 18 and 13.
 unfoldable pub split_checks : ℕ → ListLent → SplitLent → List Check

@@ -166,3 +166,6 @@ module _ {keys hops ends open-hops : List ℕ} {row depth at : ℕ} (s : Sorted 
       column : (f : Row → ℕ) (xs : List ℕ) → take depth xs ≡ map f (matching at (rows_of row keys hops)) → length xs ≡ 33
           → take (depth + 1) (set xs depth (f (row_at keys hops row))) ≡ map f (matching at (rows_of (row + 1) keys hops))
       column f xs e room = rw (add-one depth, one_more, map-append, ← e) (take-suc-set xs depth _ (omega (arith, room_above)))
+
+-- what opening the rows that begin at an address goes by
+pub ruleset opens = (room_above, opening, all_open)

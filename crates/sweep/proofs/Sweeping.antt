@@ -28,8 +28,8 @@ sweeping_start base start limit s l k e =
 module _ {keys hops ends open-hops : List ℕ} {base start limit row depth at : ℕ}
     (w : Sweeping keys hops base start limit ends open-hops row depth at) (before : at < limit) where
   -- what the next turn is asked
-  pub sweeping_asks : Sorted keys hops × Stack keys hops ends open-hops row depth at (at + 1) × (at < limit)
-  sweeping_asks = (w.sorted, w.stands before, before)
+  pub sweeping_asks : Stack keys hops ends open-hops row depth at (at + 1) × (at < limit)
+  sweeping_asks = (w.stands before, before)
 
   -- what the hop on top is asked, and what it is
   pub sweeping_top_asks : (depth ≤ 33) × (length open-hops ≡ 33)

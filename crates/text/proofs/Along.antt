@@ -4,10 +4,11 @@
 use mathlib.Core.Path.{◌≡◌, refl, ap, ◌∙◌}
 use mathlib.Core.Bool.{true}
 use mathlib.Core.List.{List, [], ◌∷◌, ◌++◌}
-use Prim.Native.Nat.{ℕ, zero, suc, ◌+◌, ◌*◌, ◌/◌, ◌≤◌, ◌<◌}
+use Prim.Native.Nat.{ℕ, zero, suc, ◌+◌, ◌*◌, ◌/◌, ◌≤◌, ◌<◌, min}
 use native.Mathlib.Omega.{arith}
 use lib.Dec.{leb, ltb}
-use lib.ListN.{length, get_or, length-append}
+use lib.ListN.{length, get_or, take, length-append}
+use lib.Seq.{length-take-le, get_or-take}
 use borrow.Author.Tests.{ltb-true}
 use Rattle.ground.proofs.Truth.{and_left, and_right}
 use Rattle.cidr.specs.Prefix.{is_prefix, network, length_of, addresses}
@@ -40,6 +41,29 @@ network_small count keys hops e i l =
     (omega (arith, in_keys count keys hops in_order)) (omega (arith, in_hops count keys hops in_order)) in
     let k = get_or keys i 0 in
     ltb-true (network k) addresses (and_left (ltb (network k) addresses) _ (and_right (leb (length_of k) 32) _ key))
+
+-- A turn of a walk over the list's keys and hops side by side: there is a row at its place, and the walk has that row's key and hop.
+pub record Turn (count : ℕ) (keys hops : List ℕ) (i key hop : ℕ) : Type 0 where
+  pub ahead : i < count
+  pub key_is : key ≡ get_or keys i 0
+  pub hop_is : hop ≡ get_or hops i 0
+
+module _ (count : ℕ) (keys hops : List ℕ) (well : well_formed count keys hops ≡ true) where
+  pub keys_long : length (take count keys) ≡ count
+  keys_long = length-take-le count keys (in_keys count keys hops (well_half count keys hops well))
+
+  pub at_turn : {i key hop : ℕ}
+      → (i < length (take count keys)) × (i < length hops) × ((d : ℕ) → key ≡ get_or (take count keys) i d) × ((d : ℕ) → hop ≡ get_or hops i d)
+      → Turn count keys hops i key hop
+  at_turn {i} t = record {
+    ahead = omega (arith, keys_long, t.0);
+    key_is = t.2 0 ∙ get_or-take count keys i 0 (omega (arith, keys_long, t.0));
+    hop_is = t.3 0;
+  }
+
+  -- after the last turn no row is left
+  pub turns_over : {i : ℕ} → i ≡ min (length (take count keys)) (length hops) → count ≤ i
+  turns_over e = omega (arith, keys_long, in_hops count keys hops (well_half count keys hops well))
 
 -- n rows have at most 25 n bytes
 pub text_at_most : (n : ℕ) (keys hops : List ℕ) → ((i : ℕ) → i < n → get_or keys i 0 / 64 < 4294967296) → ((i : ℕ) → get_or hops i 0 < 65536)
@@ -81,8 +105,11 @@ counting_start count keys hops =
 
 module _ {count : ℕ} {keys hops : List ℕ} (well : well_formed count keys hops ≡ true) {bytes i : ℕ}
     (s : Counting count keys hops bytes i) where
-  pub counting_next : {n : ℕ} → i < count → n ≡ length (row_text (row_at keys hops i)) → n ≤ 40 → Counting count keys hops (bytes + n) (i + 1)
-  counting_next {n} l e small =
+  pub counting_next : {key hop n : ℕ} → Turn count keys hops i key hop → n ≡ length (row_text (row key hop)) → n ≤ 40
+      → Counting count keys hops (bytes + n) (i + 1)
+  counting_next {n = n} t e' small =
+      let l = t.ahead in
+      let e : n ≡ length (row_text (row_at keys hops i)) = rw (t.key_is, t.hop_is) at e' in
       let text = row_text (row_at keys hops i) in
       let next = ap length (ahead_next count keys hops well i l) ∙ length-append text (ahead count keys hops (i + 1)) in
       record { within = omega arith; few = omega (arith, s.few); whole = omega (arith, s.whole) }
@@ -112,16 +139,23 @@ module _ {count : ℕ} {keys hops old out : List ℕ} (well : well_formed count 
     cut : Fits at (row_text (row_at keys hops i) ++ ahead count keys hops (i + 1)) out
     cut = rw (ahead_next count keys hops well i l) at s.fits
 
-    pub row_fits : Fits at (row_text (row_at keys hops i)) out
-    row_fits = first_fits (ahead count keys hops (i + 1)) cut
+    row_fits_there : Fits at (row_text (row_at keys hops i)) out
+    row_fits_there = first_fits (ahead count keys hops (i + 1)) cut
 
-    pub putting_next : {r : ℕ} {new : List ℕ} → Put at (row_text (row_at keys hops i)) r out new → Putting count keys hops old new r (i + 1)
-    putting_next p = record {
+    puts : {r : ℕ} {new : List ℕ} → Put at (row_text (row_at keys hops i)) r out new → Putting count keys hops old new r (i + 1)
+    puts p = record {
       within = omega arith;
       fits = rest_fits (ahead count keys hops (i + 1)) cut p;
       goes_on = λ q. s.goes_on (rw (ahead_next count keys hops well i l) (put_then (ahead count keys hops (i + 1)) cut p q));
-      as_long = put_long p row_fits.room ∙ s.as_long;
+      as_long = put_long p row_fits_there.room ∙ s.as_long;
     }
+
+  module _ {key hop : ℕ} (t : Turn count keys hops i key hop) where
+    pub row_fits : Fits at (row_text (row key hop)) out
+    row_fits = rw (t.key_is, t.hop_is) (row_fits_there t.ahead)
+
+    pub putting_next : {r : ℕ} {new : List ℕ} → Put at (row_text (row key hop)) r out new → Putting count keys hops old new r (i + 1)
+    putting_next p = puts t.ahead (rw (t.key_is, t.hop_is) at p)
 
   pub putting_end : count ≤ i → Wrote (text_of (rows_of count keys hops)) at old out
   putting_end l = put_front (s.goes_on (rw (ahead_end count keys hops well i l) (put_none at out)))

@@ -6,21 +6,21 @@ use mathlib.Core.Bool.{cond}
 use mathlib.Core.List.{List}
 use Prim.Native.Nat.{ℕ}
 use lib.Dec.{eqb}
-use Rattle.ground.specs.Numbers.{done, ill_formed}
+use Rattle.std.specs.Prelude.{Result, Ok, Err}
+use Rattle.ground.specs.declared.Refusal.{Refusal}
+use Rattle.ground.specs.Numbers.{done}
+use Rattle.ground.proofs.Numbers.{refusal_by, number_tells, number_not_done}
 use Rattle.routes.specs.Row.{ListLent}
-use Rattle.text.specs.declared.Written.{Written}
-use Rattle.text.specs.declared.Written.TheVariants.{Text, IllFormed, NoRoom}
 use Rattle.text.specs.Text.{WriteOutcome, write_gave, write}
 
-abbrev written_by : WriteOutcome → Written
-written_by o = cond (eqb o.number done) (Text o.length) (cond (eqb o.number ill_formed) IllFormed NoRoom)
+abbrev written_by : WriteOutcome → Result ℕ Refusal
+written_by o = cond (eqb o.number done) (Ok o.length) (Err (refusal_by o.number))
 
-tells : (r : Written) (buffer : List ℕ) → let o = write_gave r buffer in (written_by o ≡ r) × (o.buffer ≡ buffer)
-tells (Text n) buffer = (refl, refl)
-tells IllFormed buffer = (refl, refl)
-tells NoRoom buffer = (refl, refl)
+tells : (r : Result ℕ Refusal) (buffer : List ℕ) → let o = write_gave r buffer in (written_by o ≡ r) × (o.buffer ≡ buffer)
+tells (Ok n) buffer = (refl, refl)
+tells (Err e) buffer = (rw (number_not_done e) (ap Err (number_tells e)), refl)
 
-module _ (l : ListLent) (buffer : List ℕ) (r r' : Written) (out out' : List ℕ) where
+module _ (l : ListLent) (buffer : List ℕ) (r r' : Result ℕ Refusal) (out out' : List ℕ) where
   pub write_settled : write_gave r out ≡ write l buffer → write_gave r' out' ≡ write l buffer → (r ≡ r') × (out ≡ out')
   write_settled e e' =
       let same = e ∙ sym e' in

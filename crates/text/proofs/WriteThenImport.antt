@@ -21,15 +21,15 @@ use Rattle.routes.specs.WellFormed.{good_rows, well_formed}
 use Rattle.routes.proofs.Columns.{length_rows}
 use Rattle.rows.specs.Rows.{rows_in}
 use Rattle.rows.specs.RowNumber.{row_taken}
-use Rattle.feed.specs.declared.Imported.{Imported}
-use Rattle.feed.specs.declared.ImportEnd.TheVariants.{Done}
+use Rattle.std.specs.Prelude.{Result, Ok}
+use Rattle.ground.specs.declared.Refusal.{Refusal}
+use Rattle.feed.specs.declared.Counts.{Counts}
 use Rattle.feed.specs.Counts.{counts_of, rows_with}
 use Rattle.feed.specs.Import.{row_numbers, imported_list, ImportLent, import, import_gave}
 use Rattle.feed.proofs.Importing.{imported_length}
 use Rattle.feed.proofs.Outcome.{import_long}
 use Rattle.feed.proofs.Promise.{rows_are_all_rows, left_is_imported, report_has_numbers}
 use Rattle.feed.proofs.Settled.{gave_one}
-use Rattle.text.specs.declared.Written.TheVariants.{Text}
 use Rattle.text.specs.Text.{text_of, WriteOutcome, wrote, write_gave, write_checks, write}
 use Rattle.text.proofs.Lines.{rows_of_text}
 use Rattle.text.proofs.ReadBack.{HopsFit, text_all_taken, text_imported}
@@ -44,22 +44,23 @@ rows_fit (suc n) (k ∷ keys) (h ∷ hops) fit r m =
     ⊎_elim (λ q. rw q (fit 0)) (rows_fit n keys hops (λ i. fit (suc i)) r) (Memᴰ.cases_cons m)
 
 -- what an import of a list's text gives: it is done, every row is taken, the list is left, and the report has 0 for each row
-pub record ReadBackIn (l : ListLent) (r : Imported) (keys hops report : List ℕ) : Type 0 where
-  pub ended : r.end ≡ Done
-  pub rows : r.counts.rows ≡ l.count
-  pub taken : rows_with row_taken r.counts ≡ l.count
+pub record ReadBackIn (l : ListLent) (r : Result Counts Refusal) (keys hops report : List ℕ) : Type 0 where
+  pub counts : Counts
+  pub ended : r ≡ Ok counts
+  pub rows : counts.rows ≡ l.count
+  pub taken : rows_with row_taken counts ≡ l.count
   pub list : rows_of l.count keys hops ≡ rows_lent l
   pub numbers : take l.count report ≡ replicate l.count row_taken
 
 -- a list that was written
-module _ (l : ListLent) (buffer : List ℕ) {n : ℕ} {out : List ℕ} (w : write_gave (Text n) out ≡ write l buffer) where
+module _ (l : ListLent) (buffer : List ℕ) {n : ℕ} {out : List ℕ} (w : write_gave (Ok n) out ≡ write l buffer) where
   abbrev text : List ℕ
   text = text_of (rows_lent l)
 
   abbrev number_of : WriteOutcome → ℕ
   number_of o = o.number
 
-  accepted : write_gave (Text n) out ≡ wrote done (length text) (written text buffer)
+  accepted : write_gave (Ok n) out ≡ wrote done (length text) (written text buffer)
   unfolding write
   accepted = w ∙ accepted_is number_of (write_checks l buffer) _ _ (λ k. refl) (sym (ap number_of w))
 
@@ -87,7 +88,7 @@ module _ (l : ListLent) (buffer : List ℕ) {n : ℕ} {out : List ℕ} (w : writ
 
   -- its text, imported where there is room for its rows
   module _ (fit : (i : ℕ) → get_or l.hops i 0 < 65536) (t : ImportLent) (enough : l.count ≤ list_room t.keys t.hops)
-      (all-reported : l.count ≤ length t.report) (r : Imported) {keys hops report : List ℕ}
+      (all-reported : l.count ≤ length t.report) (r : Result Counts Refusal) {keys hops report : List ℕ}
       (g : import_gave r keys hops report ≡ import (take n out) t) where
     abbrev room : ℕ
     room = list_room t.keys t.hops
@@ -107,21 +108,21 @@ module _ (l : ListLent) (buffer : List ℕ) {n : ℕ} {out : List ℕ} (w : writ
     gave : import_gave r keys hops report ≡ import text t
     gave = rw text_is at g
 
-    done_with : r ≡ record { end = Done; counts = counts_of (row_numbers room text) }
-    done_with = (gave_one (gave ∙ import_long text t (omega (arith, all_rows_lem)))).0
+    abbrev counts : Counts
+    counts = counts_of (row_numbers room text)
 
-    ended : r.end ≡ Done
-    ended = ap (λ (x : Imported). x.end) done_with
+    ended : r ≡ Ok counts
+    ended = (gave_one (gave ∙ import_long text t (omega (arith, all_rows_lem)))).0
 
-    rows_are : r.counts.rows ≡ l.count
+    rows_are : counts.rows ≡ l.count
     rows_are = rows_are_all_rows text t gave ended ∙ all_rows_lem
 
-    taken_are : rows_with row_taken r.counts ≡ l.count
-    taken_are =
-        ap (λ (x : Imported). rows_with row_taken x.counts) done_with ∙ sym (imported_length room text) ∙ ap length imported ∙ count_is
+    taken_are : rows_with row_taken counts ≡ l.count
+    taken_are = sym (imported_length room text) ∙ ap length imported ∙ count_is
 
     pub write_then_import : ReadBackIn l r keys hops report
     write_then_import = record {
+      counts = counts;
       ended = ended;
       rows = rows_are;
       taken = taken_are;

@@ -1,14 +1,13 @@
 -- Rule 12.2: a list's text has a line `a.b.c.d/len hop` for each row, in the order of the list. Rule 12.3: the writer puts the text at the
 -- front of a buffer and returns its length. It returns 11 for a list that isn't well-formed, and 13 for a buffer that is too short.
 -- Assumes nothing.
-use Rattle.std.specs.Prelude.{not, List, [], ◌∷◌, ◌++◌, ℕ, length, ltb}
-use Rattle.ground.specs.Numbers.{Check, check, outcome, done, ill_formed, no_room}
+use Rattle.std.specs.Prelude.{not, List, [], ◌∷◌, ◌++◌, ℕ, length, ltb, Result, Ok, Err}
+use Rattle.ground.specs.declared.Refusal.{Refusal}
+use Rattle.ground.specs.Numbers.{Check, check, outcome, done, ill_formed, no_room, number_of}
 use Rattle.ground.specs.Slots.{written}
 use Rattle.routes.specs.Row.{Row, ListLent, rows_lent}
 use Rattle.routes.specs.WellFormed.{well_formed}
 use Rattle.digits.specs.Digits.{row_text}
-use Rattle.text.specs.declared.Written.{Written}
-use Rattle.text.specs.declared.Written.TheVariants.{Text, IllFormed, NoRoom}
 
 -- Rule 12.2: the text of a list, a line a row.
 unfoldable pub text_of : List Row → List ℕ
@@ -25,10 +24,9 @@ abbrev pub wrote : ℕ → ℕ → List ℕ → WriteOutcome
 wrote n len buffer = record { number = n; length = len; buffer = buffer }
 
 -- the same, read from the code's answer and the buffer at exit
-abbrev pub write_gave : Written → List ℕ → WriteOutcome
-write_gave (Text n) buffer = wrote done n buffer
-write_gave IllFormed buffer = wrote ill_formed 0 buffer
-write_gave NoRoom buffer = wrote no_room 0 buffer
+abbrev pub write_gave : Result ℕ Refusal → List ℕ → WriteOutcome
+write_gave (Ok n) buffer = wrote done n buffer
+write_gave (Err e) buffer = wrote (number_of e) 0 buffer
 
 -- Rule 12.1: 11 for a list that isn't well-formed. Rule 12.3: 13 for a buffer of fewer bytes than the text.
 unfoldable pub write_checks : ListLent → List ℕ → List Check

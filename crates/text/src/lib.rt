@@ -10,14 +10,7 @@ ghost use Rattle.text.specs.Text.{text_of, write_gave, write};
 ghost use Rattle.digits.specs.Putting.{Wrote};
 
 use digits::{put, size};
-
-// What the list writer gives: the length of the text, 11 or 13.
-#[derive(Clone, Copy)]
-pub enum Written {
-    Text(usize),
-    IllFormed,
-    NoRoom,
-}
+use ground::Refusal;
 
 // How many bytes the text of a list has.
 fn text_length(count: usize, keys: &[u64], hops: &[u16]) -> usize
@@ -25,10 +18,8 @@ fn text_length(count: usize, keys: &[u64], hops: &[u16]) -> usize
     ensures { result ≡ length (text_of (rows_of count keys.now hops.now)) }
 {
     let mut bytes = 0;
-    let mut i = 0;
-    while i < count {
-        bytes += size::of_row(keys[i], hops[i]);
-        i += 1;
+    for (key, hop) in keys[..count].iter().zip(hops) {
+        bytes += size::of_row(*key, *hop);
     }
     bytes
 }
@@ -41,10 +32,7 @@ fn text_fits(count: usize, keys: &[u64], hops: &[u16], bytes: usize) -> bool
     requires { well_formed count keys.now hops.now ≡ true }
     ensures { result ≡ leb (length (text_of (rows_of count keys.now hops.now))) bytes }
 {
-    if count <= bytes / ROW_BYTES {
-        return true;
-    }
-    text_length(count, keys, hops) <= bytes
+    count <= bytes / ROW_BYTES || text_length(count, keys, hops) <= bytes
 }
 
 // The text of a list at the front of a slice that has room for it.
@@ -54,24 +42,23 @@ fn put_rows(count: usize, keys: &[u64], hops: &[u16], out: &mut [u8]) -> usize
     ensures { Wrote (text_of (rows_of count keys.now hops.now)) result out.old out.new }
 {
     let mut at = 0;
-    let mut i = 0;
-    while i < count {
-        at = put::row(out, at, keys[i], hops[i]);
-        i += 1;
+    for (key, hop) in keys[..count].iter().zip(hops) {
+        at = put::row(out, at, *key, *hop);
     }
     at
 }
 
-// Rules 12.1 to 12.3: the text of a list at the front of a lent buffer; 11 for a list that isn't well-formed, 13 for a text that is longer
-// than the buffer. The text is measured before its first byte is written.
-pub fn write(count: usize, keys: &[u64], hops: &[u16], out: &mut [u8]) -> Written
+// Rules 12.1 to 12.3: the text of a list at the front of a lent buffer, and its length; 11 for a list that isn't well-formed, 13 for a text
+// that is longer than the buffer. The text is measured before its first byte is written.
+#[tactic(auto, using(crate::proofs::Outcome::writer))]
+pub fn write(count: usize, keys: &[u64], hops: &[u16], out: &mut [u8]) -> Result<usize, Refusal>
     ensures { write_gave result out.new ≡ write (list_lent count keys.now hops.now) out.old }
 {
     if !routes::list_ok(count, keys, hops, false) {
-        return Written::IllFormed;
+        return Err(Refusal::IllFormed);
     }
     if !text_fits(count, keys, hops, out.len()) {
-        return Written::NoRoom;
+        return Err(Refusal::NoRoom);
     }
-    Written::Text(put_rows(count, keys, hops, out))
+    Ok(put_rows(count, keys, hops, out))
 }

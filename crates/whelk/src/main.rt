@@ -8,7 +8,7 @@ ghost use Rattle.std.specs.Io.KnownBytes.{Consumes, IsAtEnd};
 use program::{LONGEST_FEED, PROGRAM_TEXT, program_text};
 use std::io::{Input, Read};
 
-// How many bytes were read, and whether a read failed.
+// How many bytes were read, and whether a read failed. No Result: how much was read is promised of a failed read too, so both sides would have it.
 #[derive(Drop)]
 struct Fed {
     bytes: usize,

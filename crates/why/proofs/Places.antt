@@ -5,7 +5,7 @@ use mathlib.Core.Path.{◌≡◌, refl, sym, ap, ◌∙◌}
 use mathlib.Core.Logic.{⊎_elim}
 use mathlib.Core.Bool.{Bool, true, false}
 use mathlib.Core.List.{List, [], ◌∷◌, ◌++◌, map, map-append, append-nil}
-use Prim.Native.Nat.{ℕ, zero, suc, ◌+◌, ◌-◌, ◌≤◌, ◌<◌, zero-le}
+use Prim.Native.Nat.{ℕ, zero, suc, ◌-◌, ◌≤◌, ◌<◌, zero-le}
 use native.Mathlib.Nat.{zero-add, eq-or-lt_of_le}
 use native.Mathlib.Numerals.{add-one}
 use native.Mathlib.Omega.{arith}
@@ -59,6 +59,9 @@ module _ (count : ℕ) (keys hops : List ℕ) (well : well_formed count keys hop
 
   pub hops_there : count ≤ length hops
   hops_there = in_hops count keys hops half
+
+  pub keys_long : length (take count keys) ≡ count
+  keys_long = length-take-le count keys keys_there
 
   sorted : Sorted (take count keys) (take count hops)
   sorted = slices_sorted count keys hops half

@@ -7,30 +7,30 @@ use mathlib.Core.List.{List}
 use mathlib.Core.Option.{Option, none, some}
 use Prim.Native.Nat.{ℕ}
 use lib.Dec.{eqb}
-use Rattle.ground.specs.Numbers.{done, ill_formed}
+use Rattle.std.specs.Prelude.{Result, Ok, Err, Some, None}
+use Rattle.std.specs.Prelude as code
+use Rattle.ground.specs.declared.Refusal.{Refusal}
+use Rattle.ground.specs.Numbers.{done}
+use Rattle.ground.proofs.Numbers.{refusal_by, number_tells, number_not_done}
 use Rattle.routes.specs.Row.{ListLent}
-use Rattle.text.specs.declared.Written.{Written}
-use Rattle.text.specs.declared.Written.TheVariants as W
 use Rattle.text.specs.Text.{WriteOutcome, write_gave}
 use Rattle.why.specs.declared.Reason.{Reason}
-use Rattle.why.specs.declared.Reason.TheVariants as R
 use Rattle.why.specs.Why.{WhyOutcome, why_gave, why}
 use Rattle.why.specs.Text.{why_text}
 
-abbrev row_of : Option ℕ → ℕ → Reason
-row_of none listed = R.Nothing
-row_of (some place) listed = R.Row place listed
+abbrev reason_of : Option ℕ → ℕ → code.Option Reason
+reason_of none listed = None
+reason_of (some place) listed = Some (record { place = place; listed = listed })
 
-abbrev reason_by : WhyOutcome → Reason
-reason_by o = cond (eqb o.number done) (row_of o.reason o.listed) (cond (eqb o.number ill_formed) R.IllFormed R.NoRoom)
+abbrev reason_by : WhyOutcome → Result (code.Option Reason) Refusal
+reason_by o = cond (eqb o.number done) (Ok (reason_of o.reason o.listed)) (Err (refusal_by o.number))
 
-tells : (r : Reason) (places : List ℕ) → let o = why_gave r places in (reason_by o ≡ r) × (o.places ≡ places)
-tells (R.Row place listed) places = (refl, refl)
-tells R.Nothing places = (refl, refl)
-tells R.IllFormed places = (refl, refl)
-tells R.NoRoom places = (refl, refl)
+tells : (r : Result (code.Option Reason) Refusal) (places : List ℕ) → let o = why_gave r places in (reason_by o ≡ r) × (o.places ≡ places)
+tells (Ok (Some r)) places = (refl, refl)
+tells (Ok None) places = (refl, refl)
+tells (Err e) places = (rw (number_not_done e) (ap Err (number_tells e)), refl)
 
-module _ (l : ListLent) (a : ℕ) (places : List ℕ) (r r' : Reason) (left left' : List ℕ) where
+module _ (l : ListLent) (a : ℕ) (places : List ℕ) (r r' : Result (code.Option Reason) Refusal) (left left' : List ℕ) where
   pub why_settled : why_gave r left ≡ why l a places → why_gave r' left' ≡ why l a places → (r ≡ r') × (left ≡ left')
   why_settled e e' =
       let same = e ∙ sym e' in
@@ -40,15 +40,14 @@ module _ (l : ListLent) (a : ℕ) (places : List ℕ) (r r' : Reason) (left left
         sym one.1 ∙ ap (λ (o : WhyOutcome). o.places) same ∙ other.1,
       )
 
-abbrev written_by : WriteOutcome → Written
-written_by o = cond (eqb o.number done) (W.Text o.length) (cond (eqb o.number ill_formed) W.IllFormed W.NoRoom)
+abbrev written_by : WriteOutcome → Result ℕ Refusal
+written_by o = cond (eqb o.number done) (Ok o.length) (Err (refusal_by o.number))
 
-tells_text : (r : Written) (buffer : List ℕ) → let o = write_gave r buffer in (written_by o ≡ r) × (o.buffer ≡ buffer)
-tells_text (W.Text n) buffer = (refl, refl)
-tells_text W.IllFormed buffer = (refl, refl)
-tells_text W.NoRoom buffer = (refl, refl)
+tells_text : (r : Result ℕ Refusal) (buffer : List ℕ) → let o = write_gave r buffer in (written_by o ≡ r) × (o.buffer ≡ buffer)
+tells_text (Ok n) buffer = (refl, refl)
+tells_text (Err e) buffer = (rw (number_not_done e) (ap Err (number_tells e)), refl)
 
-module _ (l : ListLent) (a : ℕ) (buffer : List ℕ) (r r' : Written) (out out' : List ℕ) where
+module _ (l : ListLent) (a : ℕ) (buffer : List ℕ) (r r' : Result ℕ Refusal) (out out' : List ℕ) where
   pub why_text_settled : write_gave r out ≡ why_text l a buffer → write_gave r' out' ≡ why_text l a buffer → (r ≡ r') × (out ≡ out')
   why_text_settled e e' =
       let same = e ∙ sym e' in

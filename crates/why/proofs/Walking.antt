@@ -1,54 +1,45 @@
 -- The walks: `find` notes the places of the rows that hold an address, one row after the other, and a row more is one slot more or none;
--- `copy` and `gather` fill a slice with what a list of places gives, one place after the other.
+-- `gather` fills a slice with what a list of places gives, one place after the other.
 -- Assumes nothing.
-use mathlib.Core.Path.{◌≡◌, refl, ap}
+use mathlib.Core.Path.{◌≡◌, refl, ◌∙◌}
 use mathlib.Core.Bool.{true, false}
-use mathlib.Core.List.{List, [], ◌∷◌, map, map-append}
-use Prim.Native.Nat.{ℕ, suc, ◌+◌, ◌≤◌, ◌<◌}
+use mathlib.Core.List.{List, map, map-append}
+use Prim.Native.Nat.{ℕ, ◌+◌, ◌≤◌, ◌<◌}
 use native.Mathlib.Numerals.{add-one}
 use native.Mathlib.Omega.{arith}
 use lib.ListN.{length, get_or, take, set, length-append, length-map}
-use lib.Seq.{length-take-le, take-suc}
+use lib.Seq.{get_or-take, length-take-le, take-suc, take_all}
 use Rattle.ground.specs.Slots.{written}
 use Rattle.ground.specs.Stretch.Laws.{picked_none}
-use Rattle.ground.proofs.Slots.{length_written, written_more}
+use Rattle.ground.proofs.Slots.{take_written, written_more}
 use Rattle.cidr.specs.Prefix.{holds}
 use Rattle.routes.specs.Row.{rows_of}
 use Rattle.routes.specs.WellFormed.{well_formed}
 use Rattle.why.specs.Why.{places_of}
-use Rattle.why.proofs.Places.{places_to, place_in, place_out, places_are, room_for_one}
+use Rattle.why.proofs.Places.{keys_long, places_to, place_in, place_out, places_are, room_for_one}
+use Rattle.why.proofs.Listed.{at_most_33}
 
 -- filling: what f gives at the first i places stands at the front
-pub record Filling (f : ℕ → ℕ) (n : ℕ) (places old : List ℕ) (i : ℕ) (cur : List ℕ) : Type 0 where
-  pub upto : i ≤ n
+pub record Filling (f : ℕ → ℕ) (places old : List ℕ) (i : ℕ) (cur : List ℕ) : Type 0 where
   pub slots : cur ≡ written (map f (take i places)) old
 
-module _ (f : ℕ → ℕ) {n : ℕ} {places old : List ℕ} where
-  pub filling_start : Filling f n places old 0 old
+module _ (f : ℕ → ℕ) {places old : List ℕ} where
+  pub filling_start : Filling f places old 0 old
   unfolding written
-  filling_start = record { upto = omega arith; slots = refl }
+  filling_start = record { slots = refl }
 
-  module _ {i : ℕ} {cur : List ℕ} (enough : n ≤ length places) (room : n ≤ length old) (c : Filling f n places old i cur) where
-    long : length (map f (take i places)) ≡ i
-    long = simp length-map (length-take-le i places (omega (arith, c.upto)))
+  module _ {i : ℕ} {cur : List ℕ} (room : length places ≤ length old) (c : Filling f places old i cur) where
+    pub filling_next : i < length places → Filling f places old (i + 1) (set cur i (f (get_or places i 0)))
+    filling_next l =
+        let long : length (map f (take i places)) ≡ i = simp length-map (length-take-le i places (omega arith)) in
+        record {
+          slots =
+              rw (add-one, take-suc places i 0 l, map-append, c.slots)
+              (rw long at (written_more (map f (take i places)) old (f (get_or places i 0)) (omega (arith, long))));
+        }
 
-    pub filling_long : length cur ≡ length old
-    filling_long = rw c.slots (length_written (map f (take i places)) old (omega (arith, long, c.upto)))
-
-    pub filling_next : i < n → Filling f n places old (i + 1) (set cur i (f (get_or places i 0)))
-    filling_next l = record {
-      upto = omega arith;
-      slots =
-          rw (add-one, take-suc places i 0 (omega arith), map-append, c.slots)
-          (rw long at (written_more (map f (take i places)) old (f (get_or places i 0)) (omega (arith, long))));
-    }
-
-    pub filling_end : n ≤ i → cur ≡ written (map f (take n places)) old
-    filling_end l = let all : i ≡ n = omega (arith, c.upto) in rw all at c.slots
-
-pub map_same : (xs : List ℕ) → map (λ x. x) xs ≡ xs
-map_same [] = refl
-map_same (x ∷ xs) = ap (x ∷◌) (map_same xs)
+    pub filling_end : length places ≤ i → cur ≡ written (map f places) old
+    filling_end l = rw (take_all i places l) at c.slots
 
 -- noting: the places so far stand at the front
 pub record Noting (count : ℕ) (keys : List ℕ) (a : ℕ) (old : List ℕ) (n i : ℕ) (cur : List ℕ) : Type 0 where
@@ -56,34 +47,52 @@ pub record Noting (count : ℕ) (keys : List ℕ) (a : ℕ) (old : List ℕ) (n 
   pub many : n ≡ length (places_to keys a i)
   pub slots : cur ≡ written (places_to keys a i) old
 
-pub noting_start : (count : ℕ) (keys : List ℕ) (a : ℕ) (old : List ℕ) (i : ℕ) → i ≡ 0 → Noting count keys a old 0 i old
+pub noting_start : (count : ℕ) (keys : List ℕ) (a : ℕ) (old : List ℕ) → Noting count keys a old 0 0 old
 unfolding written
-noting_start count keys a old i z = record { within = omega arith; many = rw (z, picked_none); slots = rw (z, picked_none) }
+noting_start count keys a old = record { within = omega arith; many = rw picked_none; slots = rw picked_none }
 
 module _ {count : ℕ} {keys : List ℕ} (hops : List ℕ) (well : well_formed count keys hops ≡ true) {a : ℕ} {old : List ℕ} {n i : ℕ}
     {cur : List ℕ} (c : Noting count keys a old n i cur) where
-  module _ (l : i < count) (e : holds (get_or keys i 0) a ≡ true) where
-    pub note_fits : n < 33
-    note_fits = rw c.many (room_for_one count keys hops well a i l e)
+  -- a turn of the walk over the list's keys
+  module _ (l : i < length (take count keys)) where
+    in_list : i < count
+    in_list = omega (arith, keys_long count keys hops well)
 
-    pub noting_one : length old ≡ 33 → (i' : ℕ) → suc i ≡ i' → Noting count keys a old (n + 1) i' (set cur n i)
-    noting_one room i' next = record {
-      within = omega arith;
-      many = rw (← next, place_in keys a i e, length-append) (omega (arith, c.many));
-      slots =
-          rw (← next, place_in keys a i e, c.slots, c.many)
-          (written_more (places_to keys a i) old i (omega (arith, note_fits, c.many)));
-    }
+    key_is : get_or (take count keys) i 0 ≡ get_or keys i 0
+    key_is = get_or-take count keys i 0 in_list
 
-  pub noting_none : i < count → holds (get_or keys i 0) a ≡ false → (i' : ℕ) → suc i ≡ i' → Noting count keys a old n i' cur
-  noting_none l e i' next = record {
-    within = omega arith;
-    many = rw (← next, place_out keys a i e) c.many;
-    slots = rw (← next, place_out keys a i e) c.slots;
-  }
+    module _ (e : holds (get_or (take count keys) i 0) a ≡ true) where
+      held : holds (get_or keys i 0) a ≡ true
+      held = rw key_is at e
 
-  pub noting_end : count ≤ i
-      → (n ≡ length (places_of a (rows_of count keys hops))) × (cur ≡ written (places_of a (rows_of count keys hops)) old)
-  noting_end l =
-      let all : i ≡ count = omega (arith, c.within) in
-      rw (places_are count keys hops well a) (rw all at c.many, rw all at c.slots)
+      pub note_fits : n < 33
+      note_fits = rw c.many (room_for_one count keys hops well a i in_list held)
+
+      pub noting_one : length old ≡ 33 → Noting count keys a old (n + 1) (i + 1) (set cur n i)
+      noting_one room = record {
+        within = omega (arith, in_list);
+        many = rw (add-one i, place_in keys a i held, length-append) (omega (arith, c.many));
+        slots =
+            rw (add-one i, place_in keys a i held, c.slots, c.many)
+            (written_more (places_to keys a i) old i (omega (arith, note_fits, c.many)));
+      }
+
+    pub noting_none : holds (get_or (take count keys) i 0) a ≡ false → Noting count keys a old n (i + 1) cur
+    noting_none e =
+        let out = place_out keys a i (rw key_is at e) in
+        record { within = omega (arith, in_list); many = rw (add-one, out) c.many; slots = rw (add-one, out) c.slots }
+
+  -- after the last row all places are noted
+  module _ (over : length (take count keys) ≤ i) where
+    all : i ≡ count
+    all = omega (arith, c.within, keys_long count keys hops well)
+
+    pub noted_many : n ≡ length (places_of a (rows_of count keys hops))
+    noted_many = rw (places_are count keys hops well a) (rw all at c.many)
+
+    pub noted_few : n ≤ 33
+    noted_few = rw noted_many (at_most_33 count keys hops well a)
+
+    pub noted : take n cur ≡ places_of a (rows_of count keys hops)
+    noted =
+        rw c.slots (take_written (places_to keys a i) old n c.many ∙ rw (all, places_are count keys hops well a) refl)

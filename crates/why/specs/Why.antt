@@ -2,9 +2,11 @@
 -- and the reason: no listed row holds it, or one row does and none that is longer. It returns 11 for a list that isn't well-formed and 13 for
 -- more places than room.
 -- Assumes nothing.
-use Rattle.std.specs.Prelude.{not, List, [], ◌∷◌, ℕ, length, get_or, ltb}
+use Rattle.std.specs.Prelude.{not, List, [], ◌∷◌, ℕ, length, get_or, ltb, Result, Ok, Err, Some, None}
+use Rattle.std.specs.Prelude as code
 use Rattle.std.proofs.Math.Option.{Option, none, some}
-use Rattle.ground.specs.Numbers.{Check, check, outcome, done, ill_formed, no_room}
+use Rattle.ground.specs.declared.Refusal.{Refusal}
+use Rattle.ground.specs.Numbers.{Check, check, outcome, done, ill_formed, no_room, number_of}
 use Rattle.ground.specs.Slots.{written}
 use Rattle.ground.specs.Column.{lower}
 use Rattle.ground.specs.Stretch.{among, stretch}
@@ -13,7 +15,6 @@ use Rattle.routes.specs.Row.{Row, ListLent, rows_lent, keys_of}
 use Rattle.routes.specs.WellFormed.{well_formed}
 use Rattle.routes.specs.Plain.{matching, longest}
 use Rattle.why.specs.declared.Reason.{Reason}
-use Rattle.why.specs.declared.Reason.TheVariants as R
 
 -- Rule 18.1: the places of the rows that hold the address, in the order of the list. A place is counted from 0.
 unfoldable pub places_of : ℕ → List Row → List ℕ
@@ -39,11 +40,10 @@ abbrev pub told : ℕ → ℕ → Option ℕ → List ℕ → WhyOutcome
 told n listed reason places = record { number = n; listed = listed; reason = reason; places = places }
 
 -- the same, read from the code's answer and the places at exit
-abbrev pub why_gave : Reason → List ℕ → WhyOutcome
-why_gave (R.Row place listed) places = told done listed (some place) places
-why_gave R.Nothing places = told done 0 none places
-why_gave R.IllFormed places = told ill_formed 0 none places
-why_gave R.NoRoom places = told no_room 0 none places
+abbrev pub why_gave : Result (code.Option Reason) Refusal → List ℕ → WhyOutcome
+why_gave (Ok (Some r)) places = told done r.listed (some r.place) places
+why_gave (Ok None) places = told done 0 none places
+why_gave (Err e) places = told (number_of e) 0 none places
 
 -- Rule 18.4: 11 for a list that isn't well-formed, 13 for fewer lent places than rows that hold the address.
 unfoldable pub why_checks : ListLent → ℕ → List ℕ → List Check

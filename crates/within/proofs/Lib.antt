@@ -1,3 +1,4 @@
+pub mod Placed
 mod Measuring
 mod Summing
 pub mod Cut

@@ -40,28 +40,26 @@ module _ {keys hops : List ℕ} (s : Sorted keys hops) where
 
 -- what was summed and what the outermost rows ahead hold make the whole
 pub record Summing (keys hops : List ℕ) (from end sum i : ℕ) : Type 0 where
-  pub sorted : Sorted keys hops
   pub whole : sum + outer_size end (drop i (all_rows keys hops)) ≡ outer_size from (all_rows keys hops)
   pub few : from + sum ≤ end
   pub fits : end ≤ 4294967296
 
-pub summing_start : {keys hops : List ℕ} {from : ℕ} → Sorted keys hops → from ≤ 4294967296 → Summing keys hops from from 0 0
-summing_start s l = record { sorted = s; whole = omega arith; few = omega arith; fits = l }
+pub summing_start : {keys hops : List ℕ} {from : ℕ} → from ≤ 4294967296 → Summing keys hops from from 0 0
+summing_start l = record { whole = omega arith; few = omega arith; fits = l }
 
-module _ {keys hops : List ℕ} {from end sum i : ℕ} (s : Summing keys hops from end sum i) where
+module _ {keys hops : List ℕ} (sorted : Sorted keys hops) {from end sum i : ℕ} (s : Summing keys hops from end sum i) where
   module _ (l : i < length keys) where
     pub end_fits : end_of (get_or keys i 0) ≤ 4294967296
-    end_fits = end_within (get_or keys i 0) (prefix_there s.sorted i l)
+    end_fits = end_within (get_or keys i 0) (prefix_there sorted i l)
 
     one_ahead : outer_size end (drop i (all_rows keys hops)) ≡ outer_size end (row_at keys hops i ∷ drop (i + 1) (all_rows keys hops))
-    one_ahead = ap (outer_size end) (ahead_next s.sorted i l)
+    one_ahead = ap (outer_size end) (ahead_next sorted i l)
 
     pub summing_outer : {net to : ℕ} → net ≡ network (get_or keys i 0) → to ≡ end_of (get_or keys i 0) → end ≤ net
         → Summing keys hops from to (sum + (to - net)) (i + 1)
     summing_outer {net} {to} n t first =
         let counts = outer_counts end (row_at keys hops i) (drop (i + 1) (all_rows keys hops)) (omega arith) in
         record {
-          sorted = s.sorted;
           whole = rw t (omega (arith, s.whole, one_ahead, counts));
           few = omega (arith, s.few);
           fits = omega (arith, end_fits);
@@ -70,10 +68,10 @@ module _ {keys hops : List ℕ} {from end sum i : ℕ} (s : Summing keys hops fr
     pub summing_inner : {net : ℕ} → net ≡ network (get_or keys i 0) → net < end → Summing keys hops from end sum (i + 1)
     summing_inner n inside =
         let skips = inner_skips end (row_at keys hops i) (drop (i + 1) (all_rows keys hops)) (omega arith) in
-        record { sorted = s.sorted; whole = omega (arith, s.whole, one_ahead, skips); few = s.few; fits = s.fits }
+        record { whole = omega (arith, s.whole, one_ahead, skips); few = s.few; fits = s.fits }
 
   pub summing_end : length keys ≤ i → sum ≡ outer_size from (all_rows keys hops)
   unfolding outer_size
   summing_end l =
-      let none = ap (outer_size end) (drop_of_length-le (all_rows keys hops) {i = i} (omega (arith, as_many s.sorted))) in
+      let none = ap (outer_size end) (drop_of_length-le (all_rows keys hops) {i = i} (omega (arith, as_many sorted))) in
       omega (arith, s.whole, none)

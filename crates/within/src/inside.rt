@@ -2,9 +2,11 @@
 ghost use Rattle.std.specs.Prelude.{true, ◌≡◌, ◌+◌, ◌-◌, ◌*◌, ◌≤◌, ◌<◌};
 ghost use Rattle.ground.specs.Column.{ascends, lower};
 ghost use Rattle.cidr.specs.Prefix.{is_prefix, end_of};
-ghost use Rattle.sweep.specs.Sweep.{all_rows, answer, Sorted, From};
+ghost use Rattle.sweep.specs.Sweep.{all_rows, answer, From};
 ghost use Rattle.within.specs.Middle.{Measured};
 ghost use Rattle.within.specs.Own.{outer_size};
+
+use sweep::Rows;
 
 // The runs inside a prefix: how many there are, and the hops of the first and of the last.
 #[derive(Clone, Copy)]
@@ -15,41 +17,38 @@ pub struct Middle {
 }
 
 // The runs of the rows from a start up to a limit, measured before anything is written.
-pub fn measure(keys: &[u64], hops: &[u16], base: u16, start: u64, limit: u64) -> Middle
-    requires { Sorted keys.now hops.now × From keys.now start × (start < limit) × (limit ≤ 4294967296) }
-    ensures { Measured (answer base (all_rows keys.now hops.now)) start limit result }
+pub fn measure(rows: Rows, base: u16, start: u64, limit: u64) -> Middle
+    requires { From rows.keys.now start × (start < limit) × (limit ≤ 4294967296) }
+    ensures { Measured (answer base (all_rows rows.entry.keys.now rows.entry.hops.now)) start limit result }
 {
     let mut ends = [0u64; 33];
     let mut open_hops = [0u16; 33];
-    let mut s = sweep::begin(keys, hops, start, &mut ends, &mut open_hops);
+    let mut s = sweep::begin(rows, start, &mut ends, &mut open_hops);
     let first = sweep::top_hop(&open_hops, s.depth, base);
     let mut last = first;
     let mut runs = 0;
     while s.at < limit {
         last = sweep::top_hop(&open_hops, s.depth, base);
         runs += 1;
-        s = sweep::next_turn(keys, hops, base, limit, s, &mut ends, &mut open_hops);
+        s = sweep::next_turn(rows, base, limit, s, &mut ends, &mut open_hops);
     }
     Middle { runs, first, last }
 }
 
 // How many addresses the outermost of some rows in key order hold, from an address on: a row that begins before it lies in an earlier one.
-pub fn outer_size(keys: &[u64], hops: &[u16], from: u64) -> u64
-    requires { Sorted keys.now hops.now × (from ≤ 4294967296) }
-    ensures { result ≡ outer_size from (all_rows keys.now hops.now) }
+pub fn outer_size(rows: Rows, from: u64) -> u64
+    requires { from ≤ 4294967296 }
+    ensures { result ≡ outer_size from (all_rows rows.entry.keys.now rows.entry.hops.now) }
 {
     let mut end = from;
     let mut sum: u64 = 0;
-    let mut i = 0;
-    while i < keys.len() {
-        let key = keys[i];
-        let net = cidr::network(key);
+    for key in rows.keys {
+        let net = cidr::network(*key);
         if end <= net {
-            let next = cidr::end_of(key);
+            let next = cidr::end_of(*key);
             sum += next - net;
             end = next;
         }
-        i += 1;
     }
     sum
 }
@@ -59,7 +58,7 @@ pub fn inner_from(keys: &[u64], key: u64) -> usize
     requires { (is_prefix key ≡ true) × (ascends keys.now ≡ true) }
     ensures { result ≡ lower (key + 1) keys.now }
 {
-    halving::column64::lower(keys, key + 1)
+    halving::lower(keys, key + 1)
 }
 
 // One past the last row inside a prefix: how many keys have a network before the prefix's end.
@@ -68,5 +67,5 @@ pub fn inner_upto(keys: &[u64], key: u64) -> usize
     ensures { result ≡ lower (end_of key * 64) keys.now }
 {
     let end = cidr::end_of(key);
-    halving::column64::lower(keys, end * 64)
+    halving::lower(keys, end * 64)
 }

@@ -2,8 +2,10 @@
 ghost use Rattle.std.specs.Prelude.{true, ◌≡◌, ◌-◌, ◌≤◌, ◌<◌};
 ghost use Rattle.cidr.specs.Prefix.{addresses, key_of, host_bits, is_prefix};
 ghost use Rattle.routes.specs.Change.{withdrawn};
-ghost use Rattle.sweep.specs.Sweep.{all_rows, Sorted};
+ghost use Rattle.sweep.specs.Sweep.{all_rows};
 ghost use Rattle.within.specs.Own.{enclosing_hop};
+
+use sweep::Rows;
 
 // The key of the prefix of a length that holds an address.
 fn key_around(a: u64, len: u64) -> u64
@@ -16,19 +18,13 @@ fn key_around(a: u64, len: u64) -> u64
 
 // The hop of the longest listed prefix that holds a prefix and isn't it, or 0. For each shorter length, the longest first, its key is
 // looked for by halving: at most 32 searches.
-pub fn parent_hop(keys: &[u64], hops: &[u16], net: u64, len: u64) -> u16
-    requires { Sorted keys.now hops.now × (is_prefix (key_of net len) ≡ true) × (len ≤ 32) }
-    ensures { result ≡ enclosing_hop (key_of net len) (withdrawn (key_of net len) (all_rows keys.now hops.now)) }
+pub fn parent_hop(rows: Rows, net: u64, len: u64) -> u16
+    requires { (is_prefix (key_of net len) ≡ true) × (len ≤ 32) }
+    ensures { result ≡ enclosing_hop (key_of net len) (withdrawn (key_of net len) (all_rows rows.entry.keys.now rows.entry.hops.now)) }
 {
-    let mut l = len;
-    while 0 < l {
-        l -= 1;
-        let key = key_around(net, l);
-        let at = halving::column64::lower(keys, key);
-        if at < keys.len() {
-            if keys[at] == key {
-                return hops[at];
-            }
+    for l in (0..len).rev() {
+        if let Ok(at) = routes::place_of(rows.keys, key_around(net, l)) {
+            return rows.hops[at];
         }
     }
     0

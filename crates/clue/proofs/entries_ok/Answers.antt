@@ -1,13 +1,8 @@
--- `clue::entries_ok` meets its contract. The loop's invariant: the entries are the list's exactly if those from place i on are. An entry that
--- isn't the list's for its clue, or whose key isn't below the next, settles that they aren't; one that is leaves it to those behind it.
--- The measure is how many entries are left.
--- Assumes nothing.
-use mathlib.Core.Path.{sym, ◌∙◌}
-use Prim.Native.Nat.{◌-◌}
-use native.Mathlib.Omega.{arith}
-use lib.ListN.{length}
-use Rattle.entries.proofs.Rows.{all_rows}
-use Rattle.entries.proofs.EntryTest.{hops_differ, marks_differ, Walk, walk_start, walk_end, walk_fails, walk_stops, walk_last, walk_next}
+-- An entry that isn't the list's for its clue, or whose key isn't below the next, settles that they aren't; one that is leaves it to those
+-- behind it.
+use Rattle.std.proofs.Common.{arith, sym, ◌∙◌}
+use Rattle.entries.proofs.EntryTest.{hops_differ, marks_differ, walk_start, walk_end, walk_fails, walk_stops, walk_last, walk_next}
+use Rattle.clue.proofs.entries_ok.Goals.{else-next-n-via-then-next-n+else-ekeys-next, else-next-n-via-else-next-n}
 use Rattle.clue.proofs.entries_ok.Goals as goal
 
 pub returns-then-ehops-n : goal.returns-then-ehops-n
@@ -24,18 +19,15 @@ returns-then-not-entry_ok c =
     walk_fails c.loop-i.invariant c.loop-i-test.true (sym c.entry_ok.ensures ∙ c.if-not-entry_ok.true)
 
 pub returns-then-ekeys-next : goal.returns-then-ekeys-next
-returns-then-ekeys-next c =
-    walk_stops c.loop-i.invariant c.loop-i-test.true (omega arith) (omega (arith, c.if-ekeys-next.true))
-
-pub loop-i-preserved-else-ekeys-next : goal.loop-i-preserved-else-ekeys-next
-loop-i-preserved-else-ekeys-next c =
-    walk_next c.loop-i.invariant c.loop-i-test.true (sym c.entry_ok.ensures ∙ c.if-not-entry_ok.false)
-    (omega arith) c.if-ekeys-next.false
+returns-then-ekeys-next c = walk_stops c.loop-i.invariant c.loop-i-test.true (omega arith) (omega arith)
 
 pub loop-i-preserved : goal.loop-i-preserved
 loop-i-preserved c =
-    walk_last c.loop-i.invariant c.loop-i-test.true (sym c.entry_ok.ensures ∙ c.if-not-entry_ok.false)
-    c.if-next-n.false
+    let its = sym c.entry_ok.ensures ∙ c.if-not-entry_ok.false in
+    elim c.else-next-n.branch [
+      | else-next-n-via-then-next-n+else-ekeys-next w ↦ walk_next c.loop-i.invariant c.loop-i-test.true its (omega arith) w.if-ekeys-next.false
+      | else-next-n-via-else-next-n w ↦ walk_last c.loop-i.invariant c.loop-i-test.true its (omega arith)
+    ]
 
 pub returns : goal.returns
 returns c = walk_end c.loop-i.invariant c.loop-i-test.false

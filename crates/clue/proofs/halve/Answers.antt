@@ -3,10 +3,9 @@
 -- Assumes nothing.
 use mathlib.Core.Path.{ap}
 use native.Mathlib.Omega.{arith}
-use lib.ListN.{get_or}
 use Rattle.halving.specs.Halving.{Halved}
 use Rattle.clue.proofs.Halfway.{halving_below}
-use Rattle.clue.proofs.Turning.{Turning, turning_start, turning_bounds, turning_turn, last_turn}
+use Rattle.clue.proofs.Turning.{turning_start, turning_bounds, turning_turn, last_turn}
 use Rattle.clue.proofs.halve.Goals as goal
 
 pub turns-left-requires : goal.turns-left-requires
@@ -23,12 +22,6 @@ bounds-ekeys-place c = omega (arith, turning_bounds c.loop-left.invariant)
 
 pub narrow-s-requires : goal.narrow-s-requires
 narrow-s-requires c = let b = turning_bounds c.loop-left.invariant in (b.0, omega arith, omega arith)
-
-pub overflow_sub-left : goal.overflow_sub-left
-overflow_sub-left c = omega arith
-
-pub loop-left-smaller : goal.loop-left-smaller
-loop-left-smaller c = omega arith
 
 pub loop-left-preserved : goal.loop-left-preserved
 loop-left-preserved c = turning_turn c.loop-left.invariant (omega arith) c.narrow-s.ensures

@@ -6,8 +6,7 @@ use Rattle.ground.specs.Numbers.{done}
 use Rattle.ground.specs.Column.{ascends}
 use Rattle.routes.specs.Row.{Row, rows_of, list_lent, rows_lent}
 use Rattle.routes.specs.WellFormed.{well_formed}
-use Rattle.routes.specs.declared.Place.{Place}
-use Rattle.routes.specs.declared.Place.TheVariants.{At}
+use Rattle.std.specs.Prelude.{Result, Ok}
 use Rattle.routes.specs.Place.{place_in}
 use Rattle.entries.specs.Clue.{clue_of, hop_around}
 use Rattle.entries.specs.Entries.{EntriesLent, entries_lent, its_entries}
@@ -18,7 +17,7 @@ use Rattle.entries.proofs.EntryTest.{its_ascend, its_place}
 use Rattle.clue.proofs.Final.{search_is_plain}
 use Rattle.clue.proofs.HintOutcomes.{hint_long, hint_ill, hint_other, hint_final, hint_searched, final_at, marked_at, stored_at, none_at}
 use Rattle.clue.proofs.lookup.Goals as goal
-use Rattle.clue.proofs.lookup.Goals.{in-At+else-marks-at-eq0, in_default}
+use Rattle.clue.proofs.lookup.Goals.{in-Ok+else-marks-at-eq0, in_default}
 
 -- whether the entries are the list's, which the code asks of the slices cut to the count
 theirs : {b : Bool} (count : ℕ) (keys hops : List ℕ) (e : EntriesLent) → well_formed count keys hops ≡ true
@@ -27,13 +26,13 @@ theirs : {b : Bool} (count : ℕ) (keys hops : List ℕ) (e : EntriesLent) → w
 theirs count keys hops e well is = sym (is ∙ ap (λ rows. its_entries rows e) (cut_list count keys hops well))
 
 -- the clue's place among the entries' keys, which ascend
-placed : {p found : Place} {key clue : ℕ} (rows : List Row) (ekeys ehops marks : List ℕ) → its_entries rows (entries_lent ekeys ehops marks) ≡ true
+placed : {p found : Result ℕ ℕ} {key clue : ℕ} (rows : List Row) (ekeys ehops marks : List ℕ) → its_entries rows (entries_lent ekeys ehops marks) ≡ true
     → (ascends ekeys ≡ true → found ≡ place_in ekeys key) → key ≡ clue → found ≡ p → place_in ekeys clue ≡ p
 placed rows ekeys ehops marks its is k arm = sym (sym arm ∙ is (its_ascend rows ekeys ehops marks its) ∙ ap (place_in ekeys) k)
 
 -- the clue's place among them has a mark
-marked_place : {found : Place} {key clue : ℕ} (rows : List Row) (ekeys ehops marks : List ℕ) → its_entries rows (entries_lent ekeys ehops marks) ≡ true
-    → (ascends ekeys ≡ true → found ≡ place_in ekeys key) → key ≡ clue → (at : ℕ) → found ≡ At at → at < length marks
+marked_place : {found : Result ℕ ℕ} {key clue : ℕ} (rows : List Row) (ekeys ehops marks : List ℕ) → its_entries rows (entries_lent ekeys ehops marks) ≡ true
+    → (ascends ekeys ≡ true → found ≡ place_in ekeys key) → key ≡ clue → (at : ℕ) → found ≡ Ok at → at < length marks
 marked_place rows ekeys ehops marks its is k at arm = (its_place _ _ _ _ its _ _ (placed rows ekeys ehops marks its is k arm)).1
 
 pub returns-then-len-gt32 : goal.returns-then-len-gt32
@@ -66,21 +65,21 @@ pub offset_bounds-ehops-at : goal.offset_bounds-ehops-at
 offset_bounds-ehops-at c =
     let well = list_test _ c.args.count c.args.keys.now c.args.hops.now c.if-not-list_ok.ensures in
     let its = theirs _ _ _ (entries_lent c.args.ekeys.now c.args.ehops.now c.args.marks.now) well c.if-not-entries_ok.ensures in
-    let place = placed _ _ _ _ its c.place_of.ensures c.clue_key.ensures c.in-At.is in
+    let place = placed _ _ _ _ its c.place_of.ensures c.clue_key.ensures c.in-Ok.is in
     omega (arith, its_place _ _ _ _ its _ _ place)
 
 pub bounds-ehops-at : goal.bounds-ehops-at
 bounds-ehops-at c =
     let well = list_test _ c.args.count c.args.keys.now c.args.hops.now c.if-not-list_ok.ensures in
     let its = theirs _ _ _ (entries_lent c.args.ekeys.now c.args.ehops.now c.args.marks.now) well c.if-not-entries_ok.ensures in
-    let place = placed _ _ _ _ its c.place_of.ensures c.clue_key.ensures c.in-At.is in
+    let place = placed _ _ _ _ its c.place_of.ensures c.clue_key.ensures c.in-Ok.is in
     (its_place _ _ _ _ its _ _ place).0
 
 pub returns-then-marks-at-eq0 : goal.returns-then-marks-at-eq0
 returns-then-marks-at-eq0 c =
     let well = list_test _ c.args.count c.args.keys.now c.args.hops.now c.if-not-list_ok.ensures in
     let its = theirs _ _ _ (entries_lent c.args.ekeys.now c.args.ehops.now c.args.marks.now) well c.if-not-entries_ok.ensures in
-    let place = placed _ _ _ _ its c.place_of.ensures c.clue_key.ensures c.in-At.is in
+    let place = placed _ _ _ _ its c.place_of.ensures c.clue_key.ensures c.in-Ok.is in
     sym
     (hint_final _ _ _ _ c.if-len-gt32.false well its (final_at _ _ _ place c.if-marks-at-eq0.true)
     ∙ ap (λ h. hinted done h true) (stored_at _ _ _ place))
@@ -94,7 +93,7 @@ returns c =
     let its = theirs _ _ _ (entries_lent c.args.ekeys.now c.args.ehops.now c.args.marks.now) well c.if-not-entries_ok.ensures in
     let not_final : is_final (entries_lent c.args.ekeys.now c.args.ehops.now c.args.marks.now) (clue_of c.args.len c.args.a) ≡ false =
     elim c.match-place_of.branch [
-      | in-At+else-marks-at-eq0 w ↦ marked_at _ _ _ (placed _ _ _ _ its c.place_of.ensures c.clue_key.ensures w.in-At.is) w.if-marks-at-eq0.false
+      | in-Ok+else-marks-at-eq0 w ↦ marked_at _ _ _ (placed _ _ _ _ its c.place_of.ensures c.clue_key.ensures w.in-Ok.is) w.if-marks-at-eq0.false
       | in_default w ↦ none_at _ _ _ (placed _ _ _ _ its c.place_of.ensures c.clue_key.ensures w.in_default.is)
     ] in
     ap (λ h. hinted done h false)

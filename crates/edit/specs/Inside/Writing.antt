@@ -8,18 +8,18 @@ use Rattle.cidr.specs.Prefix.{is_prefix}
 use Rattle.routes.specs.Row.{keys_of, hops_of}
 use Rattle.runs.specs.Table.{run_starts, run_hops}
 use Rattle.runs.specs.Pair.{Pair, list_of, pair_check}
-use Rattle.plan.specs.declared.hops.Found.{Found}
+use Rattle.std.specs.Prelude.{Result, IsOk}
 use Rattle.plan.specs.declared.Plan.{Plan}
 use Rattle.edit.specs.Edit.{exceeds}
 use Rattle.plan.specs.Found.{FoundIn}
 use Rattle.plan.specs.Edited.{edited_rows}
 use Rattle.plan.specs.Plan.{Planned}
 
-pub record MayWrite (k h : ℕ) (f : Found) (plan : Plan) (p : Pair) : Type 0 where
+pub record MayWrite (k h : ℕ) (f : Result ℕ ℕ) (plan : Plan) (p : Pair) : Type 0 where
   pub prefix : is_prefix k ≡ true
   pub agreed : pair_check p ≡ done
   pub found : FoundIn (take p.list.count p.list.keys) k f
-  pub may : h ≡ 0 → f.listed ≡ true
+  pub may : h ≡ 0 → IsOk f
   pub planned : Planned k h (take p.list.count p.list.keys) (take p.list.count p.list.hops)
       (take p.table.count p.table.starts) (take p.table.count p.table.hops) plan
   pub fits : exceeds (edited_rows k h (list_of p)) p ≡ false

@@ -7,4 +7,4 @@ use Rattle.host.proofs.whelk_build_half.Goals as goal
 pub returns : goal.returns
 returns c =
     let b = c.build_half in
-    build_carried b.result c.built_for_c.ensures b.ensures
+    build_carried b.result c.count_for_c.ensures b.ensures

@@ -7,4 +7,4 @@ use Rattle.host.proofs.whelk_import.Goals as goal
 pub returns : goal.returns
 returns c =
     let i = c.import in
-    import_carried _ _ i.result c.counts_for_c.ensures i.ensures
+    import_carried _ _ i.result c.into.ensures i.ensures

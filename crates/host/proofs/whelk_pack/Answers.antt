@@ -7,4 +7,4 @@ use Rattle.host.proofs.whelk_pack.Goals as goal
 pub returns : goal.returns
 returns c =
     let p = c.pack in
-    pack_carried p.result c.packing_for_c.ensures p.ensures
+    pack_carried p.result c.into.ensures p.ensures

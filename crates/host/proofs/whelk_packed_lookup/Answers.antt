@@ -5,4 +5,4 @@ use Rattle.c_answers.specs.Exports.{lookup_for_c}
 use Rattle.host.proofs.whelk_packed_lookup.Goals as goal
 
 pub returns : goal.returns
-returns c = c.packed_for_c.ensures ∙ ap lookup_for_c c.packed_lookup.ensures
+returns c = c.lookup_for_c.ensures ∙ ap lookup_for_c c.packed_lookup.ensures

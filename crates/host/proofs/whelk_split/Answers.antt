@@ -7,4 +7,4 @@ use Rattle.host.proofs.whelk_split.Goals as goal
 pub returns : goal.returns
 returns c =
     let s = c.split in
-    split_carried s.result c.parted_for_c.ensures s.ensures
+    split_carried s.result c.count_for_c.ensures s.ensures

@@ -10,12 +10,12 @@ returns-then-old-new c = let a = c.args in rw (eq-eqb a.old a.new (omega arith))
 
 pub outer_size-requires : goal.outer_size-requires
 outer_size-requires c =
-    (c.requires.0, omega (arith, c.network-net.ensures, (prefix_parts c.args.key c.requires.1).within))
+    (omega (arith, c.network-net.ensures, (prefix_parts c.args.key c.requires.0).within))
 
 pub overflow_sub-result : goal.overflow_sub-result
 overflow_sub-result c =
     let outer = rw c.network-net.ensures at c.outer_size.ensures in
-    omega (arith, outer, c.end_of.ensures, c.network-net.ensures, c.requires.2)
+    omega (arith, outer, c.end_of.ensures, c.network-net.ensures, c.requires.1)
 
 pub returns : goal.returns
 returns c =

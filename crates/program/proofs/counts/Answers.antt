@@ -1,30 +1,21 @@
--- `program::counts` meets its contract: the line of all rows, that of the taken ones, and those of the other row numbers.
+-- `program::counts` meets its contract: the line of all rows, and behind it that of each name of the table.
 -- Assumes nothing.
-use Rattle.rows.specs.RowNumber.{named, row_taken, other_names, row_names}
-use Rattle.program.specs.Program.{name_lines, count_lines}
-use Rattle.digits.proofs.Putting.{first_fits, rest_fits, put_then}
-use Rattle.program.proofs.ProgramLines.{first_name_fits, rest_names_fit, put_names}
+use Rattle.std.proofs.Common.{refl}
+use Rattle.program.proofs.ProgramLines.{names_coded, first_line_fits, naming_start, name_fits_next, naming_next, naming_end}
 use Rattle.program.proofs.counts.Goals as goal
 
-pub line-taken-requires : goal.line-taken-requires
-unfolding count_lines
-line-taken-requires c = first_fits (name_lines row_names c.args.c) c.requires
+pub line-at-requires : goal.line-at-requires
+line-at-requires c = first_line_fits c.args.c c.requires
 
-pub named-shape-requires-clause-fits : goal.named-shape-requires-clause-fits
-unfolding count_lines
-named-shape-requires-clause-fits c =
-    first_name_fits (named row_taken "taken") other_names c.args.c (rest_fits (name_lines row_names c.args.c) c.requires c.line-taken.ensures)
+pub loop-name-init : goal.loop-name-init
+loop-name-init c = naming_start c.args.c c.requires c.line-at.ensures
 
-pub others-requires : goal.others-requires
-unfolding count_lines
-others-requires c =
-    rest_names_fit (named row_taken "taken") other_names c.args.c (rest_fits (name_lines row_names c.args.c) c.requires c.line-taken.ensures)
-    c.named-shape.ensures
+pub line-at-requires-in-loop-name : goal.line-at-requires-in-loop-name
+line-at-requires-in-loop-name c = name_fits_next (names_coded _ _ _ _ _ _ _) refl c.loop-name-test.true _ c.args.c c.loop-name.invariant
+
+pub loop-name-preserved : goal.loop-name-preserved
+loop-name-preserved c =
+    naming_next (names_coded _ _ _ _ _ _ _) refl c.loop-name-test.true _ c.args.c c.loop-name.invariant c.line-at-in-loop-name.ensures
 
 pub returns : goal.returns
-unfolding count_lines
-returns c =
-    let n = c.args.c in
-    put_then (name_lines row_names n) c.requires c.line-taken.ensures
-    (put_names (named row_taken "taken") other_names n (rest_fits (name_lines row_names c.args.c) c.requires c.line-taken.ensures)
-    c.named-shape.ensures c.others.ensures)
+returns c = naming_end c.loop-name.invariant c.loop-name-test.false

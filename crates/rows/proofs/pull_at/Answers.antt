@@ -8,9 +8,9 @@ use Rattle.rows.proofs.pull_at.Goals as goal
 pub returns-then-feed-place : goal.returns-then-feed-place
 returns-then-feed-place c = sym (pull_at_end _ _ c.if-feed-place.true)
 
-pub slice_bounds-row-end : goal.slice_bounds-row-end
-slice_bounds-row-end c =
+pub slice_bounds-read_row-end : goal.slice_bounds-read_row-end
+slice_bounds-read_row-end c =
     omega (arith, c.row_end-end.ensures, row_ends_within c.args.feed.now c.args.place (omega arith))
 
 pub returns : goal.returns
-returns c = rw (c.read_row-read.ensures, c.behind.ensures) (sym (pull_row _ _ c.row_end-end.result c.if-feed-place.false c.row_end-end.ensures))
+returns c = rw (c.read_row-read.ensures, c.min.ensures) (sym (pull_row _ _ c.row_end-end.result c.if-feed-place.false c.row_end-end.ensures))

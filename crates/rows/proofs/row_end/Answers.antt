@@ -1,16 +1,19 @@
 -- `rows::row_end` meets its contract.
 -- Assumes nothing.
-use Rattle.rows.proofs.Splitting.{along_start, along_end, along_LF, along_more}
+use Rattle.std.proofs.Common.{rules, tests, arith, eqb}
+use Rattle.std.proofs.lemmas.Grind.{common_steps}
+use Rattle.std.proofs.lemmas.Iterator.{YieldsList-from_slice}
+use Rattle.std.proofs.lemmas.Iterator.Search.{position_from_yields_List}
+use Rattle.rows.proofs.Splitting.{row_length_found, length_at_end}
 use Rattle.rows.proofs.row_end.Goals as goal
 
-pub loop-end-init : goal.loop-end-init
-loop-end-init c = along_start _ _
-
-pub returns-then-feed-end-eq10 : goal.returns-then-feed-end-eq10
-returns-then-feed-end-eq10 c = along_LF c.loop-end.invariant c.loop-end-test.true c.if-feed-end-eq10.true
-
-pub loop-end-preserved : goal.loop-end-preserved
-loop-end-preserved c = along_more c.loop-end.invariant c.loop-end-test.true c.if-feed-end-eq10.false
+pub returns-in_default : goal.returns-in_default
+returns-in_default c =
+    let e = length_at_end c.args.feed.now c.args.at in
+    grind (arith, common_steps)
 
 pub returns : goal.returns
-returns c = along_end c.loop-end.invariant c.loop-end-test.false
+returns c =
+    let found = position_from_yields_List (λ b. eqb b 10) _ _ _ c.position.ensures.ran (YieldsList-from_slice c.in-Some.rest.now cc) (λ x b q k. search (rules, tests)) in
+    let e = row_length_found c.in-Some.rest.now _ found in
+    grind (arith, common_steps, e)

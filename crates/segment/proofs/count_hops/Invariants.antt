@@ -1,14 +1,7 @@
--- Invariants and measures.
+-- The loop stands before a block and has counted the bits that are 1 before it.
 -- Assumes nothing.
-use mathlib.Core.Logic.{⊎_elim}
-use Prim.Native.Nat.{◌-◌}
-use native.Mathlib.Omega.{arith}
-use Rattle.segment.proofs.AtBlock.{may_go_on, next_within}
-use Rattle.segment.proofs.CountingHops.{Counting, counting_start, counting_kept, counting_same, few_kept, all_counted}
+use Rattle.segment.proofs.CountingHops.{Counting}
 use Rattle.segment.proofs.count_hops.Given as goal
 
-abbrev pub invariant-loop-block : goal.invariant-loop-block
-invariant-loop-block l = Counting l.starts l.rhops l.base l.size l.n l.walk l.at l.block l.kept
-
-abbrev pub decreases-loop-block : goal.decreases-loop-block
-decreases-loop-block l = l.n - l.block
+abbrev pub invariant-loop : goal.invariant-loop
+invariant-loop l = Counting l.starts l.rhops l.base l.size l.n l.walk l.at l.counter l.kept

@@ -4,5 +4,5 @@ use native.Mathlib.Omega.{arith}
 use Rattle.segment.proofs.Widening.{widening_on}
 use Rattle.segment.proofs.width_of.Goals as goal
 
-pub loop-i-preserved : goal.loop-i-preserved
-loop-i-preserved c = widening_on c.loop-i.invariant (omega arith) (omega arith) _ (grind arith)
+pub loop-key-preserved : goal.loop-key-preserved
+loop-key-preserved c = widening_on c.loop-key.invariant (omega arith) (omega arith) (omega arith)

@@ -1,70 +1,48 @@
--- `segment::write_words` meets its contract. The loop's invariant is `Writing`, that the words and bases so far stand in the slices, and
--- that the walk stands before the first block without a word. A turn makes its word, whose base is how many ones were counted.
--- The measure is how many blocks have no word.
+-- `segment::write_words` meets its contract. A turn makes the next word, whose base is how many ones were counted.
 -- Assumes nothing.
 use mathlib.Core.Path.{◌≡◌}
-use Prim.Native.Nat.{◌-◌, min}
+use Prim.Native.Nat.{◌+◌, ◌*◌, min}
 use native.Mathlib.Omega.{arith}
-use Rattle.segment.specs.Inside.Blocks.{hop_in, Before}
 use Rattle.segment.proofs.WordMaking.{few_blocks}
-use Rattle.segment.proofs.WordsWriting.{Writing, writing_start, word_fits, base_fits, before_fits, writing_on, all_words, all_bases}
+use Rattle.segment.proofs.WordsWriting.{writing_start, few_words, block_there, word_fits, base_fits, before_fits, writing_on, all_words, all_bases}
 use Rattle.segment.proofs.write_words.Goals as goal
 
--- the call, before the loop and at a turn of it, and the turn, where the word is made and where the walk has gone on
-pub loop-first-init : goal.loop-first-init
-loop-first-init c =
+pub loop-j-init : goal.loop-j-init
+loop-j-init c =
     let pre = c.requires in
     let none : min 0 c.args.n ≡ 0 = omega arith in
-    (writing_start (few_blocks pre.1) pre.3 pre.4, rw none pre.2)
+    record { written = writing_start (few_blocks pre.1) pre.3 pre.4; walk = rw none pre.2 }
 
-pub word_at-made-requires : goal.word_at-made-requires
-word_at-made-requires c =
-    let l = c.loop-first in
-    let more = c.loop-first-test.true in
-    let here : min l.first c.args.n ≡ l.first = omega arith in
-    (c.requires.0, c.requires.1, rw here at l.invariant.1, more)
+pub overflow_mul-j : goal.overflow_mul-j
+overflow_mul-j c = omega (arith, few_words c.loop-j.invariant.written (omega arith))
 
-pub offset_bounds-words-j : goal.offset_bounds-words-j
-offset_bounds-words-j c = let w = c.loop-first.invariant.0 in omega (arith, w.few, w.first_is)
+pub word_at-word-requires : goal.word_at-word-requires
+word_at-word-requires c =
+    let l = c.loop-j.invariant in
+    (c.requires.0, c.requires.1, l.walk, block_there l.written (omega arith))
 
 pub bounds-words-j : goal.bounds-words-j
-bounds-words-j c = word_fits c.loop-first.invariant.0 c.loop-first-test.true
-
-pub overflow_cast-bases : goal.overflow_cast-bases
-overflow_cast-bases c = omega (arith, before_fits c.loop-first.invariant.0 c.loop-first-test.true)
-
-pub offset_bounds-bases-j : goal.offset_bounds-bases-j
-offset_bounds-bases-j c = let w = c.loop-first.invariant.0 in omega (arith, w.few, w.first_is)
+bounds-words-j c = word_fits c.loop-j.invariant.written (omega arith)
 
 pub bounds-bases-j : goal.bounds-bases-j
-bounds-bases-j c = base_fits c.loop-first.invariant.0 c.loop-first-test.true
+bounds-bases-j c = base_fits c.loop-j.invariant.written (omega arith)
+
+pub overflow_cast-bases : goal.overflow_cast-bases
+overflow_cast-bases c = omega (arith, before_fits c.loop-j.invariant.written (omega arith))
 
 pub overflow_add-ones : goal.overflow_add-ones
-overflow_add-ones c =
-    omega (arith, c.ones_of-ones.ensures.1, before_fits c.loop-first.invariant.0 c.loop-first-test.true)
+overflow_add-ones c = omega (arith, c.ones_of-ones.ensures.1, before_fits c.loop-j.invariant.written (omega arith))
 
-pub overflow_add-j : goal.overflow_add-j
-overflow_add-j c = let w = c.loop-first.invariant.0 in omega (arith, w.few, w.first_is)
-
-pub overflow_add-first : goal.overflow_add-first
-overflow_add-first c = omega (arith, c.loop-first.invariant.0.few)
-
-pub loop-first-smaller : goal.loop-first-smaller
-loop-first-smaller c = omega arith
-
-pub loop-first-preserved : goal.loop-first-preserved
-loop-first-preserved c =
-    let made = c.word_at-made.ensures in
-    (writing_on c.loop-first.invariant.0 c.loop-first-test.true made.word_is c.ones_of-ones.ensures.0, made.next)
-
-pub shape_of-words : goal.shape_of-words
-shape_of-words c = c.loop-first.invariant.0.as_long
-
-pub shape_of-bases : goal.shape_of-bases
-shape_of-bases c = c.loop-first.invariant.0.bases_as_long
+pub loop-j-preserved : goal.loop-j-preserved
+loop-j-preserved c =
+    let made = c.word_at-word.ensures in
+    let next : 16 * (c.loop-j.j + 1) ≡ 16 * c.loop-j.j + 16 = omega arith in
+    record {
+      written = writing_on c.loop-j.invariant.written (omega arith) made.word c.ones_of-ones.ensures.0;
+      walk = rw next made.next;
+    }
 
 pub returns : goal.returns
 returns c =
-    let w = c.loop-first.invariant.0 in
-    let past = c.loop-first-test.false in
-    (all_words w past, all_bases w past)
+    let w = c.loop-j.invariant.written in
+    (all_words w (omega arith), all_bases w (omega arith))

@@ -4,4 +4,4 @@ use Rattle.sweep.proofs.Stack.{standing_start}
 use Rattle.sweep.proofs.begin.Goals as goal
 
 pub open_here-requires : goal.open_here-requires
-open_here-requires c = let pre = c.requires in (pre.0, standing_start pre.1 pre.2 pre.3)
+open_here-requires c = let pre = c.requires in standing_start pre.0 pre.1 pre.2

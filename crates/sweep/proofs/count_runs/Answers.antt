@@ -1,30 +1,30 @@
 -- `sweep::count_runs` meets its contract. The loop stands at a turn of the answer, or at the limit, and has counted the turns before it.
 -- Assumes nothing.
 use mathlib.Core.Path.{◌≡◌, refl}
-use Prim.Native.Nat.{◌-◌, ◌≤◌}
+use Prim.Native.Nat.{◌-◌}
 use native.Mathlib.Omega.{arith}
-use Rattle.ground.specs.Stretch.{counted, turns_from}
+use Rattle.ground.specs.Stretch.{turns_from}
 use Rattle.ground.specs.Stretch.Count.{counted_at_most}
 use Rattle.ground.specs.Stretch.Turns.{counted_to_first}
 use Rattle.sweep.specs.Sweep.{all_rows, answer}
-use Rattle.sweep.proofs.Sweeping.{Sweeping, sweeping_start, sweeping_asks, sweeping_on, sweeping_counted}
+use Rattle.sweep.proofs.Sweeping.{sweeping_start, sweeping_asks, sweeping_on, sweeping_counted}
 use Rattle.sweep.proofs.count_runs.Goals as goal
 
 -- the call, from the empty stack
 pub begin-s-requires : goal.begin-s-requires
-begin-s-requires c = let pre = c.requires in (pre.0, pre.1, refl, refl)
+begin-s-requires c = let pre = c.requires in (pre.0, refl, refl)
 
 pub loop-s-init : goal.loop-s-init
 loop-s-init c =
     let o = c.begin-s.ensures in
     let pre = c.requires in
-    (sweeping_start _ _ _ pre.0 pre.2 o.1 o.0, counted_to_first _ _ _ o.0, pre.3)
+    (sweeping_start _ _ _ c.args.rows.sorted pre.1 o.1 o.0, counted_to_first _ _ _ o.0, pre.2)
 
 pub overflow_add-n : goal.overflow_add-n
 overflow_add-n c =
     let l = c.loop-s in
     let a = c.args in
-    let f = answer a.base (all_rows a.keys.now a.hops.now) in
+    let f = answer a.base (all_rows a.rows.keys.now a.rows.hops.now) in
     let few = counted_at_most (turns_from a.start f) a.start (l.s.at - a.start) in
     omega (arith, l.invariant.1, l.invariant.2, c.loop-s-test.true)
 

@@ -1,18 +1,17 @@
 -- `sweep::next_turn` meets its contract. The loop keeps `Going` true: up to where it stands the answer is the one it started with. It ends
 -- at the limit, or at an event where the answer is another.
 -- Assumes nothing.
-use Prim.Native.Nat.{◌-◌}
 use native.Mathlib.Omega.{arith}
 use Rattle.sweep.proofs.Stack.{few_open, before_event}
-use Rattle.sweep.proofs.Going.{Going, going_start, going_event, going_end, going_turned, going_on}
+use Rattle.sweep.proofs.Going.{going_start, going_event, going_end, going_turned, going_on}
 use Rattle.sweep.proofs.next_turn.Goals as goal
 
 -- the event that a step moves to
 pub top_hop-hop-requires : goal.top_hop-hop-requires
-top_hop-hop-requires c = let pre = c.requires in (few_open pre.0 pre.1, pre.1.hops_room)
+top_hop-hop-requires c = let pre = c.requires in (few_open c.args.rows.sorted pre.0, pre.0.hops_room)
 
 pub loop-s-init : goal.loop-s-init
-loop-s-init c = let pre = c.requires in going_start pre.0 pre.1 pre.2 c.top_hop-hop.ensures
+loop-s-init c = let pre = c.requires in going_start c.args.rows.sorted pre.0 pre.1 c.top_hop-hop.ensures
 
 pub next_event-event-requires : goal.next_event-event-requires
 next_event-event-requires c =
@@ -26,7 +25,7 @@ pub step-s-requires : goal.step-s-requires
 step-s-requires c =
     let g = c.loop-s.invariant in
     let e = c.next_event-event.ensures in
-    (g.sorted, going_event g e, omega (arith, e.past))
+    (going_event g e, omega (arith, e.past))
 
 pub top_hop-requires : goal.top_hop-requires
 top_hop-requires c =

@@ -2,22 +2,20 @@
 -- the slices. It ends with false at the first run that differs or is missing, and at the limit asks whether the slices have more.
 -- Assumes nothing.
 use mathlib.Core.Path.{◌≡◌, refl, sym, ◌∙◌}
-use Prim.Native.Nat.{◌-◌}
 use native.Mathlib.Omega.{arith}
-use Rattle.sweep.specs.Sweep.{all_rows, answer}
-use Rattle.sweep.proofs.Sweeping.{Sweeping, sweeping_start, sweeping_asks, sweeping_top_asks, sweeping_top, sweeping_on}
-use Rattle.sweep.proofs.Comparing.{Comparing, comparing_start, too_few, other_start, other_hop, comparing_on, comparing_end}
+use Rattle.sweep.proofs.Sweeping.{sweeping_start, sweeping_asks, sweeping_top_asks, sweeping_top, sweeping_on}
+use Rattle.sweep.proofs.Comparing.{comparing_start, too_few, other_start, other_hop, comparing_on, comparing_end}
 use Rattle.sweep.proofs.same_runs.Goals as goal
 
 -- the call, from the empty stack; the turn, from the test of a start; and the start that passed, from the test of its hop
 pub begin-s-requires : goal.begin-s-requires
-begin-s-requires c = let pre = c.requires in (pre.0, pre.1, refl, refl)
+begin-s-requires c = let pre = c.requires in (pre.0, refl, refl)
 
 pub loop-s-init : goal.loop-s-init
 loop-s-init c =
     let o = c.begin-s.ensures in
     let pre = c.requires in
-    (sweeping_start _ _ _ pre.0 pre.2 o.1 o.0, comparing_start o.0 pre.4)
+    (sweeping_start _ _ _ c.args.rows.sorted pre.1 o.1 o.0, comparing_start o.0 pre.3)
 
 pub returns-then-starts-n : goal.returns-then-starts-n
 returns-then-starts-n c =

@@ -5,9 +5,9 @@ use Rattle.sweep.proofs.Stack.{falling, closing}
 use Rattle.sweep.proofs.step.Goals as goal
 
 pub close_ended-depth-requires : goal.close_ended-depth-requires
-close_ended-depth-requires c = let pre = c.requires in falling pre.0 pre.1
+close_ended-depth-requires c = falling c.args.rows.sorted c.requires.0
 
 pub open_here-requires : goal.open_here-requires
 open_here-requires c =
     let pre = c.requires in
-    (pre.0, closing pre.0 pre.1 _ _ pre.2 c.close_ended-depth.ensures)
+    closing c.args.rows.sorted pre.0 _ _ pre.1 c.close_ended-depth.ensures

@@ -1,22 +1,20 @@
 -- `sweep::write_runs` meets its contract. The loop stands at a turn of the answer, or at the limit, and has written the runs before it.
 -- Assumes nothing.
 use mathlib.Core.Path.{◌≡◌, refl}
-use Prim.Native.Nat.{◌-◌, ◌≤◌}
 use native.Mathlib.Omega.{arith}
-use Rattle.sweep.specs.Sweep.{all_rows, answer}
-use Rattle.sweep.proofs.Sweeping.{Sweeping, sweeping_start, sweeping_asks, sweeping_top_asks, sweeping_top, sweeping_on}
-use Rattle.sweep.proofs.Writing.{Writing, writing_start, writing_few, start_fits, hop_fits, writing_on}
+use Rattle.sweep.proofs.Sweeping.{sweeping_start, sweeping_asks, sweeping_top_asks, sweeping_top, sweeping_on}
+use Rattle.sweep.proofs.Writing.{writing_start, writing_few, start_fits, hop_fits, writing_on}
 use Rattle.sweep.proofs.write_runs.Goals as goal
 
 -- the call, from the empty stack
 pub begin-s-requires : goal.begin-s-requires
-begin-s-requires c = let pre = c.requires in (pre.0, pre.1, refl, refl)
+begin-s-requires c = let pre = c.requires in (pre.0, refl, refl)
 
 pub loop-s-init : goal.loop-s-init
 loop-s-init c =
     let o = c.begin-s.ensures in
     let pre = c.requires in
-    (sweeping_start _ _ _ pre.0 pre.2 o.1 o.0, writing_start o.0 pre.4 pre.5, pre.3)
+    (sweeping_start _ _ _ c.args.rows.sorted pre.1 o.1 o.0, writing_start o.0 pre.3 pre.4, pre.2)
 
 pub overflow_cast-starts : goal.overflow_cast-starts
 overflow_cast-starts c = omega (arith, c.loop-s.invariant.2, c.loop-s-test.true)

@@ -1,46 +1,35 @@
--- `text::put_rows` meets its contract. There is room for the text ahead, and once that is put the whole text is there. The measure is how
--- many rows are left.
+-- `text::put_rows` meets its contract: there is room for the text ahead, and once that is put the whole text is there.
 -- Assumes nothing.
-use Prim.Native.Nat.{◌-◌}
-use native.Mathlib.Omega.{arith}
-use Rattle.routes.proofs.ListTest.{well_half}
-use Rattle.runs.proofs.WholeList.{in_keys, in_hops}
-use Rattle.text.proofs.Along.{Putting, in_top, putting_start, row_fits, putting_next, putting_end}
+use Rattle.std.proofs.Common.{length, take, sym}
+use Rattle.std.proofs.lemmas.List.{length_push}
+use Rattle.std.proofs.lemmas.Slice.Zip.{zip_turn, zip_end}
+use Rattle.text.proofs.Along.{Turn, keys_long, at_turn, turns_over, putting_start, row_fits, putting_next, putting_end}
 use Rattle.text.proofs.put_rows.Goals as goal
+use Rattle.text.proofs.put_rows.Goals.{In-Some}
 
-pub loop-i-init : goal.loop-i-init
-loop-i-init c = putting_start _ _ _ _ c.requires.hops_in_bounds
+turn : (c : In-Some) → Turn c.args.count c.args.keys.now c.args.hops.now (length c.loop-key.yielded) c.in-Some.key.now c.in-Some.hop.now
+turn c =
+    at_turn _ _ _ c.requires.hops_value
+    (zip_turn (take c.args.count c.args.keys.now) c.args.hops.now c.loop-key.yielded c.into_iter-key-iterator.result _ c.next.new.self _ (cc) (cc) c.loop-key.yielded_by _ c.in-Some.is
+    c.next.ensures.steps)
 
-pub offset_bounds-keys-i : goal.offset_bounds-keys-i
-offset_bounds-keys-i c = omega (arith, in_top _ _ _ c.requires.hops_value)
+pub slice_bounds-iter-end : goal.slice_bounds-iter-end
+slice_bounds-iter-end c = sym (keys_long _ _ _ c.requires.hops_value)
 
-pub bounds-keys-i : goal.bounds-keys-i
-bounds-keys-i c =
-    omega (arith, in_keys _ _ _ (well_half _ _ _ c.requires.hops_value))
-
-pub offset_bounds-hops-i : goal.offset_bounds-hops-i
-offset_bounds-hops-i c = omega (arith, in_top _ _ _ c.requires.hops_value)
-
-pub bounds-hops-i : goal.bounds-hops-i
-bounds-hops-i c =
-    omega (arith, in_hops _ _ _ (well_half _ _ _ c.requires.hops_value))
+pub loop-key-init : goal.loop-key-init
+loop-key-init c = putting_start _ _ _ _ c.requires.hops_in_bounds
 
 pub row-at-requires : goal.row-at-requires
-row-at-requires c =
-    row_fits c.requires.hops_value c.loop-i.invariant c.loop-i-test.true
+row-at-requires c = row_fits c.requires.hops_value c.loop-key.invariant (turn (goal.at.row-at-requires c).In-Some)
 
-pub overflow_add-i : goal.overflow_add-i
-overflow_add-i c = omega arith
-
-pub loop-i-smaller : goal.loop-i-smaller
-loop-i-smaller c = omega arith
-
-pub loop-i-preserved : goal.loop-i-preserved
-loop-i-preserved c =
-    putting_next c.requires.hops_value c.loop-i.invariant (omega arith) c.row-at.ensures
-
-pub shape_of-out : goal.shape_of-out
-shape_of-out c = c.loop-i.invariant.as_long
+pub loop-key-preserved : goal.loop-key-preserved
+loop-key-preserved c =
+    rw length_push
+    (putting_next c.requires.hops_value c.loop-key.invariant (turn (goal.at.loop-key-preserved c).In-Some) c.row-at.ensures)
 
 pub returns : goal.returns
-returns c = putting_end c.requires.hops_value c.loop-i.invariant (omega arith)
+returns c =
+    putting_end c.requires.hops_value c.loop-key.invariant
+    (turns_over _ _ _ c.requires.hops_value
+    (zip_end (take c.args.count c.args.keys.now) c.args.hops.now c.loop-key.yielded c.into_iter-key-iterator.result _ c.next.new.self _ (cc) (cc) c.loop-key.yielded_by c.in-None.is
+    c.next.ensures.steps))

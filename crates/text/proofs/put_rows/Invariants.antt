@@ -1,14 +1,8 @@
--- Invariants and measures.
+-- There is room for the text ahead, and once that is put the whole text is there (`Putting`).
 -- Assumes nothing.
-use Prim.Native.Nat.{◌-◌}
-use native.Mathlib.Omega.{arith}
-use Rattle.routes.proofs.ListTest.{well_half}
-use Rattle.runs.proofs.WholeList.{in_keys, in_hops}
-use Rattle.text.proofs.Along.{Putting, in_top, putting_start, row_fits, putting_next, putting_end}
+use Rattle.std.proofs.Common.{length}
+use Rattle.text.proofs.Along.{Putting}
 use Rattle.text.proofs.put_rows.Given as goal
 
-abbrev pub invariant-loop-i : goal.invariant-loop-i
-invariant-loop-i l = Putting l.count l.keys l.hops l.initial.out l.out l.at l.i
-
-abbrev pub decreases-loop-i : goal.decreases-loop-i
-decreases-loop-i l = l.count - l.i
+abbrev pub invariant-loop-key : goal.invariant-loop-key
+invariant-loop-key l = Putting l.count l.keys l.hops l.initial.out l.out l.at (length l.yielded)

@@ -1,14 +1,8 @@
--- Invariants and measures.
+-- What was counted and the length of the text ahead make the whole (`Counting`).
 -- Assumes nothing.
-use Prim.Native.Nat.{◌-◌}
-use native.Mathlib.Omega.{arith}
-use Rattle.routes.proofs.ListTest.{well_half}
-use Rattle.runs.proofs.WholeList.{in_keys, in_hops}
-use Rattle.text.proofs.Along.{Counting, in_top, network_small, counting_start, counting_next, counting_end}
+use Rattle.std.proofs.Common.{length}
+use Rattle.text.proofs.Along.{Counting}
 use Rattle.text.proofs.text_length.Given as goal
 
-abbrev pub invariant-loop-i : goal.invariant-loop-i
-invariant-loop-i l = Counting l.count l.keys l.hops l.bytes l.i
-
-abbrev pub decreases-loop-i : goal.decreases-loop-i
-decreases-loop-i l = l.count - l.i
+abbrev pub invariant-loop-key : goal.invariant-loop-key
+invariant-loop-key l = Counting l.count l.keys l.hops l.bytes (length l.yielded)

@@ -1,19 +1,19 @@
 -- `edit::agreed::edit_agreed` meets its contract, step by step (`LocalEdit`).
 -- Assumes nothing.
 use mathlib.Core.Path.{◌≡◌, sym}
-use Prim.Native.Nat.{ℕ, ◌≤◌, ◌<◌}
+use Prim.Native.Nat.{ℕ, ◌≤◌}
 use native.Mathlib.Omega.{arith}
 use lib.ListN.{length}
 use lib.Seq.{length-take-le}
-use mathlib.Core.Bool.{true}
 use mathlib.Core.List.{List}
 use Rattle.ground.specs.Numbers.{done}
 use Rattle.routes.specs.Row.{list_lent}
 use Rattle.runs.specs.Table.{runs_lent}
 use Rattle.runs.specs.Pair.{Pair, pair, pair_check}
 use Rattle.runs.proofs.Agreed.{agreed_half, agreed_room, agreed_ascends}
-use Rattle.runs.proofs.WholeList.{in_keys, in_hops, in_starts, in_rhops}
+use Rattle.runs.proofs.WholeList.{in_keys, in_hops, in_starts, in_rhops, slices_sorted}
 use Rattle.plan.proofs.Planning.{network_small}
+use Rattle.plan.proofs.Found.{found_in}
 use Rattle.edit.proofs.LocalEdit.{unlisted, plan_asks, full, may_write, fitted}
 use Rattle.edit.proofs.agreed.edit_agreed.Goals as goal
 
@@ -36,72 +36,55 @@ pub overflow_add-key : goal.overflow_add-key
 overflow_add-key c =
     omega (arith, network_small _ _ c.requires.0 c.requires.1, c.requires.1)
 
-pub slice_bounds-find-end : goal.slice_bounds-find-end
-slice_bounds-find-end c =
-    (counts _ _ _ _ _ _ c.requires.2).0
+pub slice_bounds-rows-end : goal.slice_bounds-rows-end
+slice_bounds-rows-end c = (counts _ _ _ _ _ _ c.requires.2).0
 
-pub slice_bounds-find-end-2 : goal.slice_bounds-find-end-2
-slice_bounds-find-end-2 c =
-    sym (length-take-le _ _ (counts _ _ _ _ _ _ c.requires.2).0)
+pub slice_bounds-rows-end-2 : goal.slice_bounds-rows-end-2
+slice_bounds-rows-end-2 c = sym (length-take-le _ _ (counts _ _ _ _ _ _ c.requires.2).0)
 
-pub find-found-requires : goal.find-found-requires
-find-found-requires c =
-    agreed_ascends _ c.requires.2
+pub slice_bounds-rows-end-3 : goal.slice_bounds-rows-end-3
+slice_bounds-rows-end-3 c = (counts _ _ _ _ _ _ c.requires.2).1
+
+pub slice_bounds-rows-end-4 : goal.slice_bounds-rows-end-4
+slice_bounds-rows-end-4 c = sym (length-take-le _ _ (counts _ _ _ _ _ _ c.requires.2).1)
+
+pub invariant_of-rows : goal.invariant_of-rows
+invariant_of-rows c = record { sorted = slices_sorted _ _ _ (agreed_half _ c.requires.2) }
 
 pub returns-then-nothing_to_withdraw : goal.returns-then-nothing_to_withdraw
 returns-then-nothing_to_withdraw c =
-    unlisted _ c.requires.2 _ c.args.hop c.find-found.ensures c.nothing_to_withdraw.ensures c.if-nothing_to_withdraw.true
+    unlisted _ c.requires.2 _ c.args.hop (found_in _ _ (c.place_of-place.ensures (agreed_ascends _ c.requires.2))) c.nothing_to_withdraw.ensures c.if-nothing_to_withdraw.true
 
 pub slice_bounds-plan_edit-end : goal.slice_bounds-plan_edit-end
-slice_bounds-plan_edit-end c =
-    (counts _ _ _ _ _ _ c.requires.2).0
+slice_bounds-plan_edit-end c = (counts _ _ _ _ _ _ c.requires.2).2
 
 pub slice_bounds-plan_edit-end-2 : goal.slice_bounds-plan_edit-end-2
-slice_bounds-plan_edit-end-2 c =
-    sym (length-take-le _ _ (counts _ _ _ _ _ _ c.requires.2).0)
+slice_bounds-plan_edit-end-2 c = sym (length-take-le _ _ (counts _ _ _ _ _ _ c.requires.2).2)
 
 pub slice_bounds-plan_edit-end-3 : goal.slice_bounds-plan_edit-end-3
-slice_bounds-plan_edit-end-3 c =
-    (counts _ _ _ _ _ _ c.requires.2).1
+slice_bounds-plan_edit-end-3 c = (counts _ _ _ _ _ _ c.requires.2).3
 
 pub slice_bounds-plan_edit-end-4 : goal.slice_bounds-plan_edit-end-4
-slice_bounds-plan_edit-end-4 c =
-    sym (length-take-le _ _ (counts _ _ _ _ _ _ c.requires.2).1)
-
-pub slice_bounds-plan_edit-end-5 : goal.slice_bounds-plan_edit-end-5
-slice_bounds-plan_edit-end-5 c =
-    (counts _ _ _ _ _ _ c.requires.2).2
-
-pub slice_bounds-plan_edit-end-6 : goal.slice_bounds-plan_edit-end-6
-slice_bounds-plan_edit-end-6 c =
-    sym (length-take-le _ _ (counts _ _ _ _ _ _ c.requires.2).2)
-
-pub slice_bounds-plan_edit-end-7 : goal.slice_bounds-plan_edit-end-7
-slice_bounds-plan_edit-end-7 c =
-    (counts _ _ _ _ _ _ c.requires.2).3
-
-pub slice_bounds-plan_edit-end-8 : goal.slice_bounds-plan_edit-end-8
-slice_bounds-plan_edit-end-8 c =
-    sym (length-take-le _ _ (counts _ _ _ _ _ _ c.requires.2).3)
+slice_bounds-plan_edit-end-4 c = sym (length-take-le _ _ (counts _ _ _ _ _ _ c.requires.2).3)
 
 pub plan_edit-p-requires : goal.plan_edit-p-requires
 plan_edit-p-requires c =
     let asks =
-    plan_asks _ c.requires.2 _ c.args.hop c.find-found.ensures c.nothing_to_withdraw.ensures c.if-nothing_to_withdraw.false in
-    (asks.0, asks.1, asks.2, c.requires.0, c.requires.1, c.find-found.ensures, asks.3)
+    plan_asks _ c.requires.2 _ c.args.hop (found_in _ _ (c.place_of-place.ensures (agreed_ascends _ c.requires.2))) c.nothing_to_withdraw.ensures c.if-nothing_to_withdraw.false in
+    (asks.0, asks.1, c.requires.0, c.requires.1, (found_in _ _ (c.place_of-place.ensures (agreed_ascends _ c.requires.2))), asks.2)
 
 -- where the edit is planned, from where its room is known
 pub returns-then-exceeds : goal.returns-then-exceeds
 returns-then-exceeds c =
-    full _ c.requires.2 _ c.args.hop c.find-found.ensures c.nothing_to_withdraw.ensures c.if-nothing_to_withdraw.false
+    full _ c.requires.2 _ c.args.hop (found_in _ _ (c.place_of-place.ensures (agreed_ascends _ c.requires.2))) c.nothing_to_withdraw.ensures c.if-nothing_to_withdraw.false
     c.plan_edit-p.ensures c.exceeds.ensures c.if-exceeds.true
 
 pub write_edit-requires : goal.write_edit-requires
 write_edit-requires c =
-    may_write _ c.requires.2 _ c.args.hop c.find-found.ensures c.nothing_to_withdraw.ensures c.if-nothing_to_withdraw.false
+    may_write _ c.requires.2 _ c.args.hop (found_in _ _ (c.place_of-place.ensures (agreed_ascends _ c.requires.2))) c.nothing_to_withdraw.ensures c.if-nothing_to_withdraw.false
     c.plan_edit-p.ensures c.exceeds.ensures c.requires.0 c.if-exceeds.false
 
 pub returns : goal.returns
 returns c =
-    fitted _ c.requires.2 _ c.args.hop c.find-found.ensures c.nothing_to_withdraw.ensures c.if-nothing_to_withdraw.false
+    fitted _ c.requires.2 _ c.args.hop (found_in _ _ (c.place_of-place.ensures (agreed_ascends _ c.requires.2))) c.nothing_to_withdraw.ensures c.if-nothing_to_withdraw.false
     c.plan_edit-p.ensures c.exceeds.ensures c.requires.0 c.if-exceeds.false c.write_edit.ensures

@@ -1,33 +1,35 @@
 -- `edit::agreed::write_edit` meets its contract (`Writing`).
 -- Assumes nothing.
-use mathlib.Core.Path.{◌≡◌}
 use native.Mathlib.Omega.{arith}
-use Rattle.edit.proofs.Writing.{part_within, row_asks, splice_asks, wrote}
+use Rattle.edit.proofs.Writing.{part_within, part_sorted, row_asks, splice_asks, wrote}
 use Rattle.edit.proofs.agreed.write_edit.Goals as goal
 
-pub offset_bounds-keys-from : goal.offset_bounds-keys-from
-offset_bounds-keys-from c = omega (arith, part_within c.requires)
+pub offset_bounds-keys-p : goal.offset_bounds-keys-p
+offset_bounds-keys-p c = omega (arith, part_within c.requires)
 
-pub slice_bounds-splice_runs-count : goal.slice_bounds-splice_runs-count
-slice_bounds-splice_runs-count c = omega (arith, part_within c.requires)
+pub slice_bounds-inside-count : goal.slice_bounds-inside-count
+slice_bounds-inside-count c = omega (arith, part_within c.requires)
 
-pub slice_bounds-splice_runs-start : goal.slice_bounds-splice_runs-start
-slice_bounds-splice_runs-start c = omega (arith, part_within c.requires)
+pub slice_bounds-inside-start : goal.slice_bounds-inside-start
+slice_bounds-inside-start c = omega (arith, part_within c.requires)
 
-pub slice_bounds-splice_runs-end : goal.slice_bounds-splice_runs-end
-slice_bounds-splice_runs-end c = omega (arith, part_within c.requires)
+pub slice_bounds-inside-end : goal.slice_bounds-inside-end
+slice_bounds-inside-end c = omega (arith, part_within c.requires)
 
-pub offset_bounds-hops-from : goal.offset_bounds-hops-from
-offset_bounds-hops-from c = omega (arith, part_within c.requires)
+pub offset_bounds-hops-p : goal.offset_bounds-hops-p
+offset_bounds-hops-p c = omega (arith, part_within c.requires)
 
-pub slice_bounds-splice_runs-count-2 : goal.slice_bounds-splice_runs-count-2
-slice_bounds-splice_runs-count-2 c = omega (arith, part_within c.requires)
+pub slice_bounds-inside-count-2 : goal.slice_bounds-inside-count-2
+slice_bounds-inside-count-2 c = omega (arith, part_within c.requires)
 
-pub slice_bounds-splice_runs-start-2 : goal.slice_bounds-splice_runs-start-2
-slice_bounds-splice_runs-start-2 c = omega (arith, part_within c.requires)
+pub slice_bounds-inside-start-2 : goal.slice_bounds-inside-start-2
+slice_bounds-inside-start-2 c = omega (arith, part_within c.requires)
 
-pub slice_bounds-splice_runs-end-2 : goal.slice_bounds-splice_runs-end-2
-slice_bounds-splice_runs-end-2 c = omega (arith, part_within c.requires)
+pub slice_bounds-inside-end-2 : goal.slice_bounds-inside-end-2
+slice_bounds-inside-end-2 c = omega (arith, part_within c.requires)
+
+pub invariant_of-inside : goal.invariant_of-inside
+invariant_of-inside c = record { sorted = part_sorted c.requires }
 
 pub splice_runs-requires : goal.splice_runs-requires
 splice_runs-requires c =

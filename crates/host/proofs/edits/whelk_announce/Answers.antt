@@ -7,4 +7,4 @@ use Rattle.host.proofs.edits.whelk_announce.Goals as goal
 pub returns : goal.returns
 returns c =
     let e = c.announce in
-    edit_carried e.result c.edit_for_c.ensures e.ensures
+    edit_carried e.result c.into.ensures e.ensures

@@ -7,4 +7,4 @@ use Rattle.host.proofs.edits.whelk_withdraw.Goals as goal
 pub returns : goal.returns
 returns c =
     let e = c.withdraw in
-    edit_carried e.result c.edit_for_c.ensures e.ensures
+    edit_carried e.result c.into.ensures e.ensures

@@ -4,4 +4,4 @@ use Rattle.c_structs.proofs.PullCarried.{pull_carried}
 use Rattle.host.proofs.feeds.whelk_pull.Goals as goal
 
 pub returns : goal.returns
-returns c = let p = c.pull_at-p in pull_carried p.result c.pull_for_c.ensures p.ensures
+returns c = let p = c.pull_at in pull_carried p.result c.into.ensures p.ensures

@@ -6,4 +6,4 @@ use Rattle.host.proofs.reasons.whelk_why.Goals as goal
 pub returns : goal.returns
 returns c =
     let w = c.why in
-    why_carried w.result c.reason_for_c.ensures w.ensures
+    why_carried w.result c.into.ensures w.ensures

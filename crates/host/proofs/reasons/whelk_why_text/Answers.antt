@@ -6,4 +6,4 @@ use Rattle.host.proofs.reasons.whelk_why_text.Goals as goal
 pub returns : goal.returns
 returns c =
     let w = c.why_text in
-    write_carried w.result c.written_for_c.ensures w.ensures
+    write_carried w.result c.count_for_c.ensures w.ensures

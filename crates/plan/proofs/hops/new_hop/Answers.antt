@@ -1,5 +1,4 @@
--- `plan::hops::new_hop` meets its contract: an announced prefix has the new hop, a withdrawn one that of the nearest row around (`OwnHop`).
--- Assumes nothing.
+-- An announced prefix has the new hop, a withdrawn one that of the nearest row around (`OwnHop`).
 use Rattle.plan.proofs.Edited.{edited_withdrawn}
 use Rattle.plan.proofs.OwnHop.{announced_hop}
 use Rattle.plan.proofs.hops.new_hop.Goals as goal
@@ -7,7 +6,5 @@ use Rattle.plan.proofs.hops.new_hop.Goals as goal
 pub returns-then-hop-eq0 : goal.returns-then-hop-eq0
 returns-then-hop-eq0 c = rw (edited_withdrawn _ _ _ c.if-hop-eq0.true) c.parent_hop.ensures
 
-pub returns : goal.returns
-returns c =
-    let pre = c.requires in
-    announced_hop pre.0 _ pre.1 _ c.if-hop-eq0.false
+pub returns-else-hop-eq0 : goal.returns-else-hop-eq0
+returns-else-hop-eq0 c = announced_hop c.args.rows.sorted _ c.requires.0 _ c.if-hop-eq0.false

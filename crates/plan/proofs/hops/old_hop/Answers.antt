@@ -1,25 +1,16 @@
--- `plan::hops::old_hop` meets its contract: a listed prefix has its row's hop, and any other that of the nearest row around (`OwnHop`).
--- Assumes nothing.
-use native.Mathlib.Omega.{arith}
+-- A listed prefix has its row's hop, and any other that of the nearest row around (`OwnHop`).
+use Rattle.std.proofs.Common.{arith}
 use Rattle.plan.proofs.OwnHop.{found_there, found_own, unlisted_own}
 use Rattle.plan.proofs.hops.old_hop.Goals as goal
 
-pub offset_bounds-hops-at : goal.offset_bounds-hops-at
-offset_bounds-hops-at c =
-    let pre = c.requires in
-    omega (arith, found_there pre.0 _ pre.3 c.if-found.true)
+pub offset_bounds-rows-at : goal.offset_bounds-rows-at
+offset_bounds-rows-at c = omega (arith, found_there c.args.rows.sorted _ c.requires.2 c.in-Ok.is)
 
-pub bounds-hops-at : goal.bounds-hops-at
-bounds-hops-at c =
-    let pre = c.requires in
-    found_there pre.0 _ pre.3 c.if-found.true
+pub bounds-rows-at : goal.bounds-rows-at
+bounds-rows-at c = found_there c.args.rows.sorted _ c.requires.2 c.in-Ok.is
 
-pub returns-then-found : goal.returns-then-found
-returns-then-found c =
-    let pre = c.requires in
-    found_own pre.0 _ pre.3 c.if-found.true pre.1
+pub returns-in-Ok : goal.returns-in-Ok
+returns-in-Ok c = found_own c.args.rows.sorted _ c.requires.2 c.in-Ok.is c.requires.0
 
-pub returns : goal.returns
-returns c =
-    let pre = c.requires in
-    unlisted_own pre.0 _ pre.3 c.if-found.false c.parent_hop.ensures
+pub returns-in-Err : goal.returns-in-Err
+returns-in-Err c = unlisted_own c.args.rows.sorted _ c.requires.2 c.in-Err.is c.parent_hop.ensures

@@ -3,8 +3,5 @@
 use Rattle.rows.proofs.Fields.{Reads}
 use Rattle.rows.proofs.parse.digits_from.Given as goal
 
-abbrev pub invariant-loop-left : goal.invariant-loop-left
-invariant-loop-left l = Reads l.row l.at l.most l.value l.next l.left
-
-abbrev pub decreases-loop-left : goal.decreases-loop-left
-decreases-loop-left l = l.left
+abbrev pub invariant-loop-next : goal.invariant-loop-next
+invariant-loop-next l = Reads l.row l.at l.most l.value l.next

@@ -2,22 +2,21 @@
 -- has the hop of the address before it.
 -- Assumes nothing.
 use mathlib.Core.Path.{refl}
-use Prim.Native.Nat.{◌-◌}
 use native.Mathlib.Omega.{arith}
-use Rattle.within.proofs.Measuring.{Measuring, may_look_first, measuring_start, few_runs, measuring_next, measuring_end}
+use Rattle.within.proofs.Measuring.{may_look_first, measuring_start, few_runs, measuring_next, measuring_end}
 use Rattle.sweep.proofs.Sweeping.{sweeping_asks, sweeping_top_asks}
 use Rattle.within.proofs.inside.measure.Goals as goal
 
 pub begin-s-requires : goal.begin-s-requires
-begin-s-requires c = let pre = c.requires in (pre.0, pre.1, refl, refl)
+begin-s-requires c = let pre = c.requires in (pre.0, refl, refl)
 
 pub top_hop-first-requires : goal.top_hop-first-requires
-top_hop-first-requires c = may_look_first c.requires.0 c.begin-s.ensures
+top_hop-first-requires c = may_look_first c.args.rows.sorted c.begin-s.ensures
 
 pub loop-s-init : goal.loop-s-init
 loop-s-init c =
     let pre = c.requires in
-    measuring_start pre.0 c.begin-s.ensures _ _ pre.2 pre.3 c.top_hop-first.ensures
+    measuring_start c.args.rows.sorted c.begin-s.ensures _ _ pre.1 pre.2 c.top_hop-first.ensures
 
 pub top_hop-last-requires : goal.top_hop-last-requires
 top_hop-last-requires c = sweeping_top_asks c.loop-s.invariant.sweeping (omega arith)
@@ -36,4 +35,4 @@ loop-s-preserved c =
     measuring_next c.loop-s.invariant (omega arith) c.top_hop-last.ensures c.next_turn-s.ensures
 
 pub returns : goal.returns
-returns c = measuring_end c.loop-s.invariant c.requires.2 (omega arith)
+returns c = measuring_end c.loop-s.invariant c.requires.1 (omega arith)

@@ -1,50 +1,48 @@
--- `within::parent::parent_hop` meets its contract. The loop keeps `Shorter` true: the rows around that aren't the prefix's own are shorter
--- than l. The measure is l.
--- Assumes nothing.
-use mathlib.Core.Path.{◌≡◌, ◌∙◌, subst}
-use Prim.Native.Nat.{◌-◌}
-use native.Mathlib.Omega.{arith}
+use Rattle.std.proofs.Common.{arith, subst, ◌∙◌, ◌≡◌, ◌-◌}
 use Rattle.cidr.specs.Prefix.{key_of}
 use Rattle.cidr.proofs.Prefix.{prefix_parts, length_key}
-use Rattle.sweep.proofs.Sorted.{keys_ascend}
-use Rattle.within.proofs.Nearest.{around_network, Shorter, shorter_start, shorter_next, found_parent, no_parent}
+use Rattle.sweep.proofs.Sorted.{keys_ascend, hop_there}
+use Rattle.within.proofs.Placed.{key_stands, key_missing}
+use Rattle.within.proofs.Nearest.{Shorter, around_network, shorter_start, shorter_next, found_parent, no_parent}
 use Rattle.within.proofs.parent.parent_hop.Goals as goal
 
 pub loop-l-init : goal.loop-l-init
 loop-l-init c =
-    let args = c.args in
-    subst (Shorter _ _ (key_of args.net args.len)) (length_key args.net args.len (omega (arith, c.requires.2)))
-    (shorter_start c.requires.0 _ c.requires.1)
+    subst (Shorter _ _ (key_of c.args.net c.args.len)) (length_key c.args.net c.args.len (omega (arith, c.requires.1)))
+    (shorter_start c.args.rows.sorted _ c.requires.0)
 
-pub key_around-key-requires : goal.key_around-key-requires
-key_around-key-requires c =
-    let args = c.args in
-    let is_prefix_lem = prefix_parts (key_of args.net args.len) c.requires.1 in
-    (omega (arith, is_prefix_lem.within, c.requires.2), omega (arith, c.loop-l.invariant.upto, is_prefix_lem.short))
+pub key_around-requires : goal.key_around-requires
+key_around-requires c =
+    let parts = prefix_parts (key_of c.args.net c.args.len) c.requires.0 in
+    (omega (arith, parts.within, c.requires.1), omega (arith, c.loop-l.invariant.upto, parts.short))
 
-pub bounds-hops-at : goal.bounds-hops-at
-bounds-hops-at c =
-    omega (arith, c.requires.0.paired)
+pub offset_bounds-rows-at : goal.offset_bounds-rows-at
+offset_bounds-rows-at c =
+    let a = keys_ascend c.args.rows.sorted in
+    omega (arith, hop_there c.args.rows.sorted c.in-Ok.at (key_stands _ _ a (c.place_of.ensures a) c.in-Ok.is).0)
 
-pub returns-then-keys-at : goal.returns-then-keys-at
-returns-then-keys-at c =
-    found_parent c.requires.0 _ c.requires.1 _ c.loop-l.invariant (omega arith) _
-    (c.key_around-key.ensures ∙ around_network c.args.net c.args.len (c.loop-l.l - 1) c.requires.2)
-    _ (omega arith) (omega arith)
+pub bounds-rows-at : goal.bounds-rows-at
+bounds-rows-at c =
+    let a = keys_ascend c.args.rows.sorted in
+    hop_there c.args.rows.sorted c.in-Ok.at (key_stands _ _ a (c.place_of.ensures a) c.in-Ok.is).0
 
-pub loop-l-preserved-else-keys-at : goal.loop-l-preserved-else-keys-at
-loop-l-preserved-else-keys-at c =
-    shorter_next c.requires.0 _ c.requires.1 _ c.loop-l.invariant (omega arith) _
-    (c.key_around-key.ensures ∙ around_network c.args.net c.args.len (c.loop-l.l - 1) c.requires.2)
-    _ (c.lower-at.ensures (keys_ascend c.requires.0)) (λ there e. omega arith)
+pub returns-in-Ok : goal.returns-in-Ok
+returns-in-Ok c =
+    let a = keys_ascend c.args.rows.sorted in
+    let there = key_stands _ _ a (c.place_of.ensures a) c.in-Ok.is in
+    found_parent c.args.rows.sorted _ c.requires.0 _ c.loop-l.invariant (omega arith) _
+    (c.key_around.ensures ∙ around_network c.args.net c.args.len (c.loop-l.l - 1) c.requires.1)
+    _ there.0 there.1
 
 pub loop-l-preserved : goal.loop-l-preserved
 loop-l-preserved c =
-    shorter_next c.requires.0 _ c.requires.1 _ c.loop-l.invariant (omega arith) _
-    (c.key_around-key.ensures ∙ around_network c.args.net c.args.len (c.loop-l.l - 1) c.requires.2)
-    _ (c.lower-at.ensures (keys_ascend c.requires.0)) (λ there e. omega arith)
+    let a = keys_ascend c.args.rows.sorted in
+    let none = key_missing _ _ a (c.place_of.ensures a) c.in_default.is in
+    shorter_next c.args.rows.sorted _ c.requires.0 _ c.loop-l.invariant (omega arith) _
+    (c.key_around.ensures ∙ around_network c.args.net c.args.len (c.loop-l.l - 1) c.requires.1)
+    _ none.0 none.1
 
 pub returns : goal.returns
 returns c =
     let none : c.loop-l.l ≡ 0 = omega arith in
-    no_parent c.requires.0 _ c.requires.1 (subst (Shorter _ _ _) none c.loop-l.invariant)
+    no_parent c.args.rows.sorted _ c.requires.0 (subst (Shorter _ _ _) none c.loop-l.invariant)
