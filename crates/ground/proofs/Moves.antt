@@ -16,7 +16,7 @@ use borrow.Author.Tests.{lt-ltb, le-ltb, le-leb, lt-leb}
 use borrow.Rule.Slice.PartMut.{put_mid, mid_of, post_of}
 use Rattle.std.proofs.lemmas.List.{set-append_right}
 use Rattle.ground.proofs.Truth.{cond_true, cond_false, and_both}
-use Rattle.ground.specs.Column.{inserted_at, taken_out, removed_at, moved_to}
+use Rattle.ground.specs.Column.{inserted_at, taken_out, removed_at, moved_down, moved_to}
 use Rattle.ground.specs.Slots.{written, rewritten}
 
 and-false : (b : Bool) → (b && false) ≡ false
@@ -95,6 +95,12 @@ module _ {A : Type 0} (xs : List A) (count at : ℕ) where
       cong_take : {m k : ℕ} {ys zs : List A} → m ≡ k → ys ≡ zs → take m ys ≡ take k zs
       cong_take p q = rw (p, q)
 
+-- elements that were copied further down
+pub lowered : {A : Type 0} (xs : List A) (count from by : ℕ) → by ≤ from → from ≤ count
+    → paste xs (from - by) (drop from xs) (count - from) ≡ moved_down count from by xs
+unfolding moved_down
+lowered xs count from by l m = let behind : from - by + (count - from) ≡ count - by = omega arith in rw (behind, append_assoc)
+
 -- elements that were copied to another place, and the slots that they leave filled
 module _ {A : Type 0} (freed : A) (xs : List A) (count from to : ℕ) (l : from ≤ count) (room : count ≤ length xs) (fits : to + (count - from) ≤ length xs) where
   abbrev kept : List A
@@ -103,19 +109,21 @@ module _ {A : Type 0} (freed : A) (xs : List A) (count from to : ℕ) (l : from 
   kept_long : length kept ≡ to + (count - from)
   kept_long = simp (length-append, length-take, length-drop) (omega arith)
 
-  pub copied_up : count ≤ to + (count - from) → paste xs to (drop from xs) (count - from) ≡ moved_to freed count from to xs
+  pub copied_up : from ≤ to → paste xs to (drop from xs) (count - from) ≡ moved_to freed count from to xs
   unfolding moved_to
   copied_up m =
       let none : count - (to + (count - from)) ≡ 0 = omega arith in
       let top : max (to + (count - from)) count ≡ to + (count - from) = omega arith in
       rw (kept_long, none, top)
 
-  pub copied_down : (n i : ℕ) (all ys : List A) → n ≡ count - (to + (count - from)) → to + (count - from) < count
-      → all ≡ paste xs to (drop from xs) (count - from) → ys ≡ replicate i freed ++ drop i (mid_of (to + (count - from)) n all)
+  pub copied_down : (n i : ℕ) (all ys : List A) → n ≡ count - (to + (count - from)) → to < from
+      → all ≡ moved_down count from (from - to) xs → ys ≡ replicate i freed ++ drop i (mid_of (to + (count - from)) n all)
       → length ys ≡ length (mid_of (to + (count - from)) n all) → length (mid_of (to + (count - from)) n all) ≤ i
       → put_mid (to + (count - from)) n all ys ≡ moved_to freed count from to xs
   unfolding moved_to
-  copied_down n i all ys e m copied is long past =
+  copied_down n i all ys e m lower is long past =
+      let down : from - (from - to) ≡ to = omega arith in
+      let copied : all ≡ paste xs to (drop from xs) (count - from) = rw down at (lower ∙ sym (lowered xs count from (from - to) (omega arith) l)) in
       let whole : length all ≡ length xs = ap length copied ∙ simp (length-append, length-take, length-drop) (omega arith) in
       let part : length (mid_of (to + (count - from)) n all) ≡ n = simp (length-take, length-drop) (omega (arith, whole)) in
       let none = drop_of_length-le (mid_of (to + (count - from)) n all) {i = i} past in

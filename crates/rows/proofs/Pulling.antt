@@ -1,14 +1,14 @@
 -- What a pull finds, by its place: at or past the feed's end no row and the same place, before it the row from there on and the place
 -- behind it.
 -- Assumes nothing.
-use mathlib.Core.Path.{◌≡◌}
+use mathlib.Core.Path.{◌≡◌, sym}
 use mathlib.Core.List.{List}
 use mathlib.Core.Option.{none, some}
 use Prim.Native.Nat.{ℕ, ◌+◌, ◌-◌, ◌≤◌, ◌<◌, min}
 use native.Mathlib.Omega.{arith}
 use lib.ListN.{length, take, drop, length-take, length-drop}
 use Rattle.rows.specs.Rows.{row_length}
-use Rattle.rows.specs.Reading.{read_row}
+use Rattle.rows.specs.Reading.{Reading, read_row}
 use Rattle.rows.specs.Pull.{pull, pull_of}
 use Rattle.rows.proofs.Splitting.{rows_from, no_rows_at_end, row_ends_within}
 
@@ -28,3 +28,8 @@ module _ (feed : List ℕ) (at : ℕ) where
         ≡ record { reading = some (read_row (take (end - at) (drop at feed))); next = min (end + 1) (length feed) }
     unfolding pull pull_of
     pull_row = rw (rows_from feed at end h e, row_length_lem)
+
+    -- the same of a row that is read up to `stop`
+    pub row_pulled : {stop next : ℕ} {r : Reading} → r ≡ read_row (take (stop - at) (drop at feed)) → next ≡ min (end + 1) (length feed)
+        → stop ≡ end → record { reading = some r; next = next } ≡ pull feed at
+    row_pulled read_is next_is stop_is = rw (read_is, next_is, stop_is) (sym pull_row)

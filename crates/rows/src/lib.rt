@@ -67,6 +67,7 @@ pub fn row_end(feed: &[u8], at: usize) -> usize
 }
 
 // The row from a place on: what it says, and the place behind its LF or the feed's end. At or past the end, no row and the same place.
+#[tactic(auto, using(crate::proofs::Splitting::row_ends_within))]
 pub fn pull_at(feed: &[u8], place: usize) -> RowPulled
     ensures { pull_gave result ≡ pull feed.now place }
 {

@@ -149,3 +149,8 @@ pub refused_pair : (q : ℕ) (p : Pair) (words bases hops : List ℕ) (e : Refus
 refused_pair q p words bases hops e (Ok x) is a = absurd a
 refused_pair q p words bases hops e (Err f) is a =
     rw a (sym (pack_by q p (pack_lent words bases hops) (number_of e) (sym is) (number_not_done e)))
+
+-- the same for a number that the code gives by itself
+pub pair_refused : (q : ℕ) (p : Pair) (words bases hops : List ℕ) (e : Refusal) → pair_gave (Err e) ≡ pair_check p
+    → pack_gave (Err e) words bases hops ≡ pack q p (pack_lent words bases hops)
+pair_refused q p words bases hops e is = refused_pair q p words bases hops e (Err e) is refl

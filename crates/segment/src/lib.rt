@@ -10,7 +10,7 @@ ghost use Rattle.ground.specs.Slots.{written};
 ghost use Rattle.routes.specs.Row.{list_lent};
 ghost use Rattle.runs.specs.Table.{runs_lent};
 ghost use Rattle.runs.specs.Pair.{pair};
-ghost use Rattle.segment.specs.Packed.{bit, bit_value, word_from, words_for, code_words, bases_from, kept_hops};
+ghost use Rattle.segment.specs.Packed.{bit, word_from, words_for, code_words, bases_from, kept_hops};
 ghost use Rattle.segment.specs.Pack.{pack_lent, pack_gave, pack};
 ghost use Rattle.segment.specs.Inside.Blocks.{Runs, begun, hop_in, Stands, Before, Grid, pack_blocks};
 ghost use Rattle.segment.specs.Inside.Width.{width_in};
@@ -73,31 +73,17 @@ impl Walk {
     }
 }
 
-// The bit of a block, 1 for the first block and where the hop isn't that of the block before. A bit without a block is 0.
-fn bit_at(
-    starts: &[u32],
-    rhops: &[u16],
-    walk: &mut Walk,
-    base: u64,
-    size: u64,
-    n: u64,
-    block: u64,
-) -> u16
-    requires { Runs starts.now rhops.now × Grid base size n × Before starts.now rhops.now base size (min block n) walk.old }
-    ensures bit { result ≡ bit_value (bit (hop_in starts.now rhops.now base size) n block) }
-    ensures few { result ≤ 1 }
-    ensures next { Before starts.now rhops.now base size (min (block + 1) n) walk.new }
+// A word whose bits stand at the lowest places, with zeros behind them.
+fn filled(word: u16, zeros: u64) -> u16
+    requires { (zeros < 16) × (word * 2 ^ zeros < 65536) }
+    ensures { result ≡ word * 2 ^ zeros }
 {
-    if block == 0 {
-        return 1;
-    }
-    if n <= block {
-        return 0;
-    }
-    u16::from(walk.go_on(starts, rhops, base + block * size))
+    word << zeros
 }
 
-// The code word of 16 blocks from `first` on, of which the first one's bit is highest.
+// The code word of 16 blocks from `first` on, of which the first one's bit is highest. A block's bit is 1 where the walk finds another hop, and
+// for the segment's first block, at which the walk stands, without that; a bit without a block is 0. What is the same for all blocks of a word is
+// asked once a word.
 fn word_at(
     starts: &[u32],
     rhops: &[u16],
@@ -111,11 +97,13 @@ fn word_at(
     ensures word { result ≡ word_from (bit (hop_in starts.now rhops.now base size) n) 16 first }
     ensures next { Before starts.now rhops.now base size (min (first + 16) n) walk.new }
 {
+    let end = n.min(first + 16);
     let mut word = 0;
-    for block in first..first + 16 {
-        word = word * 2 + bit_at(starts, rhops, walk, base, size, n, block);
+    for block in first..end {
+        word = word * 2 + u16::from(walk.go_on(starts, rhops, base + block * size));
     }
-    word
+    let word = filled(word, first + 16 - end);
+    if first == 0 { 32768 + word } else { word }
 }
 
 // The code words of all blocks and their bases, from the front of two slices. All 65,536 bits may be 1, so the ones are counted in 32 bits,
@@ -293,6 +281,7 @@ fn pack_segment(
 }
 
 // Segment q of a list and its run table into lent words, bases and hops; 11 or 14 for a pair that doesn't agree, 13 for too little room.
+#[tactic(auto, using(crate::proofs::PackLaws::pair_refused))]
 pub fn pack(
     q: u16,
     count: usize,

@@ -134,16 +134,16 @@ module _ {keys hops : List ℕ} (s : Sorted keys hops) {k : ℕ} where
               sym (standing_answer first moved.1 0 (omega arith)) ∙ ap (λ f. f to) (answer_plain first)
               ∙ ap (λ rs. plain rs to) (first_rows s within)
 
-          pub labelling_next : {hop : ℕ} → hop ≡ last_or 0 (take depth' open-hops')
-              → Labelling keys hops k old (set labels (i - k) (bit_xor (get_or hops i 0) hop)) ends' open-hops' row' depth' at' (i + 1)
-          labelling_next {hop} e =
+          pub labelling_next : {hop slot : ℕ} → hop ≡ last_or 0 (take depth' open-hops') → slot ≡ i - k
+              → Labelling keys hops k old (set labels slot (bit_xor (get_or hops i 0) hop)) ends' open-hops' row' depth' at' (i + 1)
+          labelling_next {hop} e slot_is =
               let more : i + 1 - k ≡ i - k + 1 = omega (arith, w.from) in
               let there : k + (i - k) ≡ i = omega (arith, w.from) in
               record {
                 stack = rw moved.0 moved.1;
                 all = still_all;
                 behind = λ j m lt. omega (arith, moved.0, network_climbs s within i j (omega arith) lt);
-                filling = rw more (filling_next w.filling (omega (arith, labels_long s within, w.from))
+                filling = rw (more, slot_is) (filling_next w.filling (omega (arith, labels_long s within, w.from))
                     (rw (e, last_open, here) (rw there at (sym (label_at s within (i - k) (omega (arith, w.from)))))));
                 from = omega (arith, w.from);
               }

@@ -16,7 +16,7 @@ use Rattle.cidr.specs.Prefix.{holds}
 use Rattle.routes.specs.Row.{rows_of}
 use Rattle.routes.specs.WellFormed.{well_formed}
 use Rattle.why.specs.Why.{places_of}
-use Rattle.why.proofs.Places.{keys_long, places_to, place_in, place_out, places_are, room_for_one}
+use Rattle.why.proofs.Places.{places_to, place_in, place_out, places_are, room_for_one}
 use Rattle.why.proofs.Listed.{at_most_33}
 
 -- filling: what f gives at the first i places stands at the front
@@ -54,38 +54,34 @@ noting_start count keys a old = record { within = omega arith; many = rw picked_
 module _ {count : ℕ} {keys : List ℕ} (hops : List ℕ) (well : well_formed count keys hops ≡ true) {a : ℕ} {old : List ℕ} {n i : ℕ}
     {cur : List ℕ} (c : Noting count keys a old n i cur) where
   -- a turn of the walk over the list's keys
-  module _ (l : i < length (take count keys)) where
-    in_list : i < count
-    in_list = omega (arith, keys_long count keys hops well)
+  module _ (in_list : i < count) where
+    -- the row's key, as the code read it
+    module _ {k : ℕ} (k_is : k ≡ get_or keys i 0) where
+      module _ (e : holds k a ≡ true) where
+        held : holds (get_or keys i 0) a ≡ true
+        held = rw k_is at e
 
-    key_is : get_or (take count keys) i 0 ≡ get_or keys i 0
-    key_is = get_or-take count keys i 0 in_list
+        pub note_fits : n < 33
+        note_fits = rw c.many (room_for_one count keys hops well a i in_list held)
 
-    module _ (e : holds (get_or (take count keys) i 0) a ≡ true) where
-      held : holds (get_or keys i 0) a ≡ true
-      held = rw key_is at e
+        pub noting_one : {n' j : ℕ} → n' ≡ n + 1 → j ≡ i → length old ≡ 33 → Noting count keys a old n' (i + 1) (set cur n j)
+        noting_one n_is j_is room = record {
+          within = omega (arith, in_list);
+          many = rw (n_is, add-one i, place_in keys a i held, length-append) (omega (arith, c.many));
+          slots =
+              rw (j_is, add-one i, place_in keys a i held, c.slots, c.many)
+              (written_more (places_to keys a i) old i (omega (arith, note_fits, c.many)));
+        }
 
-      pub note_fits : n < 33
-      note_fits = rw c.many (room_for_one count keys hops well a i in_list held)
-
-      pub noting_one : length old ≡ 33 → Noting count keys a old (n + 1) (i + 1) (set cur n i)
-      noting_one room = record {
-        within = omega (arith, in_list);
-        many = rw (add-one i, place_in keys a i held, length-append) (omega (arith, c.many));
-        slots =
-            rw (add-one i, place_in keys a i held, c.slots, c.many)
-            (written_more (places_to keys a i) old i (omega (arith, note_fits, c.many)));
-      }
-
-    pub noting_none : holds (get_or (take count keys) i 0) a ≡ false → Noting count keys a old n (i + 1) cur
-    noting_none e =
-        let out = place_out keys a i (rw key_is at e) in
-        record { within = omega (arith, in_list); many = rw (add-one, out) c.many; slots = rw (add-one, out) c.slots }
+      pub noting_none : holds k a ≡ false → Noting count keys a old n (i + 1) cur
+      noting_none e =
+          let out = place_out keys a i (rw k_is at e) in
+          record { within = omega (arith, in_list); many = rw (add-one, out) c.many; slots = rw (add-one, out) c.slots }
 
   -- after the last row all places are noted
-  module _ (over : length (take count keys) ≤ i) where
+  module _ (over : count ≤ i) where
     all : i ≡ count
-    all = omega (arith, c.within, keys_long count keys hops well)
+    all = omega (arith, c.within)
 
     pub noted_many : n ≡ length (places_of a (rows_of count keys hops))
     noted_many = rw (places_are count keys hops well a) (rw all at c.many)

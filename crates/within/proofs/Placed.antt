@@ -1,9 +1,13 @@
 -- What the place of a key among ascending keys tells: the key stands there (Ok), or it isn't what would stand there (Err).
 -- Assumes nothing.
-use Rattle.std.proofs.Common.{◌≡◌, refl, sym, ap, ◌∙◌, ⊎_elim, ℕ, ◌<◌, List, Bool, true, false, length, get_or, Result, Ok, Err, lt-ltb, eq-eqb, ltb-true, eqb-true}
+use Rattle.std.proofs.Common.{◌≡◌, refl, sym, ap, ◌∙◌, ⊎_elim, ℕ, ◌<◌, ◌≤◌, arith, List, Bool, true, false, length, get_or, Result, Ok, Err, lt-ltb, eq-eqb, ltb-true, eqb-true}
 use Rattle.std.proofs.lemmas.Bool.{false≢true}
 use Rattle.ground.specs.Column.{ascends, is_in, lower}
 use Rattle.ground.proofs.Truth.{decided, and_left, and_right, and_both}
+use Rattle.cidr.specs.Prefix.{addresses, key_of, is_prefix}
+use Rattle.cidr.proofs.Prefix.{prefix_parts, network_key}
+use Rattle.sweep.specs.Sweep.{Sorted}
+use Rattle.sweep.proofs.Sorted.{keys_ascend}
 use Rattle.routes.specs.Place.{place_in}
 use Rattle.routes.proofs.KeyPlace.{in_at_place}
 
@@ -39,3 +43,14 @@ module _ (keys : List ℕ) (k : ℕ) where
           here,
           λ l e. false≢true (sym (sym (in_at_place k keys a) ∙ sym stands_is ∙ ap stands (sym gave ∙ is)) ∙ rw (← here) (and_both (lt-ltb _ _ l) (eq-eqb _ _ e))),
         )
+
+-- a key isn't at the place where it would stand
+pub not_there : (keys hops : List ℕ) (k at : ℕ) {r : Result ℕ ℕ} → Sorted keys hops → (ascends keys ≡ true → r ≡ place_in keys k) → r ≡ Err at
+    → at < length keys → k ≡ get_or keys at 0 → ⊥
+not_there keys hops k at s gave is l e = (key_missing keys k (keys_ascend s) (gave (keys_ascend s)) is).1 l (sym e)
+
+-- a prefix's network is an address
+pub network_fits : (net len : ℕ) → is_prefix (key_of net len) ≡ true → len ≤ 32 → net < addresses
+network_fits net len e short =
+    let parts = prefix_parts (key_of net len) e in
+    omega (arith, parts.within, network_key net len (omega arith))

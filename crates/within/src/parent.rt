@@ -18,6 +18,7 @@ fn key_around(a: u64, len: u64) -> u64
 
 // The hop of the longest listed prefix that holds a prefix and isn't it, or 0. For each shorter length, the longest first, its key is
 // looked for by halving: at most 32 searches.
+#[tactic(auto, using(crate::proofs::Placed::not_there, crate::proofs::Placed::network_fits))]
 pub fn parent_hop(rows: Rows, net: u64, len: u64) -> u16
     requires { (is_prefix (key_of net len) ≡ true) × (len ≤ 32) }
     ensures { result ≡ enclosing_hop (key_of net len) (withdrawn (key_of net len) (all_rows rows.entry.keys.now rows.entry.hops.now)) }

@@ -2,7 +2,7 @@
 -- Assumes nothing.
 use Rattle.std.proofs.Common.{sym, arith}
 use Rattle.rows.proofs.Splitting.{row_ends_within}
-use Rattle.rows.proofs.Pulling.{pull_at_end, pull_row}
+use Rattle.rows.proofs.Pulling.{pull_at_end, row_pulled}
 use Rattle.rows.proofs.pull_at.Goals as goal
 
 pub returns-then-feed-place : goal.returns-then-feed-place
@@ -13,4 +13,6 @@ slice_bounds-read_row-end c =
     omega (arith, c.row_end-end.ensures, row_ends_within c.args.feed.now c.args.place (omega arith))
 
 pub returns : goal.returns
-returns c = rw (c.read_row-read.ensures, c.min.ensures) (sym (pull_row _ _ c.row_end-end.result c.if-feed-place.false c.row_end-end.ensures))
+returns c =
+    row_pulled _ _ c.row_end-end.result c.if-feed-place.false c.row_end-end.ensures c.read_row-read.ensures (omega arith)
+    (omega (arith, row_ends_within c.args.feed.now c.args.place (omega arith)))
