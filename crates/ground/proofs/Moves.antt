@@ -96,10 +96,11 @@ module _ {A : Type 0} (xs : List A) (count at : ℕ) where
       cong_take p q = rw (p, q)
 
 -- elements that were copied further down
-pub lowered : {A : Type 0} (xs : List A) (count from by : ℕ) → by ≤ from → from ≤ count
-    → paste xs (from - by) (drop from xs) (count - from) ≡ moved_down count from by xs
+pub lowered : {A : Type 0} (xs ys : List A) (count from by place first n : ℕ) → by ≤ from → from ≤ count
+    → ys ≡ paste xs place (drop first xs) n → place ≡ from - by → first ≡ from → n ≡ count - from → ys ≡ moved_down count from by xs
 unfolding moved_down
-lowered xs count from by l m = let behind : from - by + (count - from) ≡ count - by = omega arith in rw (behind, append_assoc)
+lowered xs ys count from by place first n l m is there here many =
+    let behind : from - by + (count - from) ≡ count - by = omega arith in is ∙ rw (there, here, many, behind, append_assoc)
 
 -- elements that were copied to another place, and the slots that they leave filled
 module _ {A : Type 0} (freed : A) (xs : List A) (count from to : ℕ) (l : from ≤ count) (room : count ≤ length xs) (fits : to + (count - from) ≤ length xs) where
@@ -116,25 +117,25 @@ module _ {A : Type 0} (freed : A) (xs : List A) (count from to : ℕ) (l : from 
       let top : max (to + (count - from)) count ≡ to + (count - from) = omega arith in
       rw (kept_long, none, top)
 
-  pub copied_down : (n i : ℕ) (all ys : List A) → n ≡ count - (to + (count - from)) → to < from
-      → all ≡ moved_down count from (from - to) xs → ys ≡ replicate i freed ++ drop i (mid_of (to + (count - from)) n all)
-      → length ys ≡ length (mid_of (to + (count - from)) n all) → length (mid_of (to + (count - from)) n all) ≤ i
-      → put_mid (to + (count - from)) n all ys ≡ moved_to freed count from to xs
+  pub copied_down : (by end n i : ℕ) (all ys : List A) → by ≡ from - to → end ≡ to + (count - from) → n ≡ count - end → to < from
+      → all ≡ moved_down count from by xs → ys ≡ replicate i freed ++ drop i (mid_of end n all)
+      → length ys ≡ length (mid_of end n all) → length (mid_of end n all) ≤ i
+      → put_mid end n all ys ≡ moved_to freed count from to xs
   unfolding moved_to
-  copied_down n i all ys e m lower is long past =
-      let down : from - (from - to) ≡ to = omega arith in
-      let copied : all ≡ paste xs to (drop from xs) (count - from) = rw down at (lower ∙ sym (lowered xs count from (from - to) (omega arith) l)) in
+  copied_down by end n i all ys down ends e m lower is long past =
+      let copied : all ≡ paste xs to (drop from xs) (count - from)
+      = lower ∙ sym (lowered xs _ count from by to from (count - from) (omega (arith, down)) l refl (omega (arith, down, m)) refl refl) in
       let whole : length all ≡ length xs = ap length copied ∙ simp (length-append, length-take, length-drop) (omega arith) in
-      let part : length (mid_of (to + (count - from)) n all) ≡ n = simp (length-take, length-drop) (omega (arith, whole)) in
-      let none = drop_of_length-le (mid_of (to + (count - from)) n all) {i = i} past in
+      let part : length (mid_of end n all) ≡ n = simp (length-take, length-drop) (omega (arith, whole, ends)) in
+      let none = drop_of_length-le (mid_of end n all) {i = i} past in
       let filled : ys ≡ replicate i freed = is ∙ rw (none, append-nil) in
       let as_many : i ≡ n = omega (arith, ap length filled, length-replicate i freed, long, part) in
       let top : max (to + (count - from)) count ≡ count = omega arith in
       let front = take_at kept (drop (to + (count - from)) xs) (to + (count - from)) kept_long in
       let behind : drop n (drop (to + (count - from)) (kept ++ drop (to + (count - from)) xs)) ≡ drop count xs
       = ap (drop n) (drop_at kept (drop (to + (count - from)) xs) (to + (count - from)) kept_long)
-      ∙ drop-drop n (to + (count - from)) xs ∙ ap (λ m. drop m xs) (omega (arith, e)) in
-      rw (filled, as_many, copied, front, behind, kept_long, top, e)
+      ∙ drop-drop n (to + (count - from)) xs ∙ ap (λ m. drop m xs) (omega (arith, e, ends)) in
+      rw (ends, filled, as_many, copied, front, behind, kept_long, top, e ∙ ap (count -◌) ends)
 
 -- a slot more is filled
 pub filled_more : {A : Type 0} (xs ys : List A) (i : ℕ) (v : A) → ys ≡ replicate i v ++ drop i xs → i < length xs

@@ -7,11 +7,12 @@ use mathlib.Core.List.{List}
 use Prim.Native.Nat.{ℕ, zero, suc, ◌+◌, ◌-◌, ◌*◌, ◌≤◌, ◌<◌}
 use native.Mathlib.Nat.{mul-le-mul_right}
 use native.Mathlib.Omega.{arith}
+use lib.ListN.{get_or}
 use lib.Dec.{eqb}
 use Rattle.segment.specs.declared.Walk.{Walk}
 use Rattle.segment.specs.Inside.Blocks.{Runs, begun, hop_in, Stands, Before, Grid}
 use Rattle.segment.specs.Packed.{bit}
-use Rattle.segment.proofs.Walking.{one_more, may_go_on, bit_found, stands_before}
+use Rattle.segment.proofs.Walking.{one_more, may_go_on, hop_kept, bit_found, stands_before}
 
 -- a block ends where all blocks end, or before
 pub block_fits : {base size n : ℕ} → Grid base size n → (b : ℕ) → b < n → base + b * size + size ≤ 4294967296
@@ -38,8 +39,8 @@ module _ {starts rhops : List ℕ} {base size n at block : ℕ} {s : Walk} (a : 
   on = omega (arith, a.there, one_more block size a.some)
 
   -- the walk may go on to the block
-  pub may_go : Runs starts rhops × (s.begun ≤ begun starts (at + size))
-  may_go = (a.runs, rw on (may_go_on a.walk a.some))
+  pub may_go : Runs starts rhops × (s.begun ≤ begun starts (at + size)) × (s.hop ≡ get_or rhops (s.begun - 1) 0)
+  may_go = (a.runs, rw on (may_go_on a.walk a.some), hop_kept a.walk)
 
   pub next_fits : block < n → at + size ≤ 4294967296
   next_fits l = omega (arith, on, block_fits a.grid block l)

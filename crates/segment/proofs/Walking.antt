@@ -1,7 +1,7 @@
 -- The walk over a run table from block to block. More runs have begun at a later address; one has begun at every address, since the first
 -- start is 0. So where the walk stands at a block it may go on to the next one, with that block's hop as the last.
 -- Assumes nothing.
-use mathlib.Core.Path.{◌≡◌, ◌∙◌}
+use mathlib.Core.Path.{◌≡◌, refl, ◌∙◌}
 use mathlib.Core.Bool.{Bool, true, false, not}
 use mathlib.Core.List.{List}
 use Prim.Native.Nat.{ℕ, zero, suc, ◌+◌, ◌-◌, ◌*◌, ◌≤◌, ◌<◌}
@@ -44,12 +44,32 @@ pub stands_at : (starts rhops : List ℕ) (at n hop : ℕ) → n ≡ begun start
 unfolding hop_at
 stands_at starts rhops at n hop is e = record { begun_is = is; hop_is = e ∙ rw is }
 
+-- where no run begins on the way to an address, the walk stands there with the hop that it has
+module _ {starts rhops : List ℕ} (t : Runs starts rhops) (at n : ℕ) (known : n ≤ begun starts at) where
+  pub next_start : (n ≡ length starts → ⊥) → n < length starts
+  next_start f = omega (arith, lower_le (at + 1) starts, known, f)
+
+  module _ {hop : ℕ} (kept : hop ≡ get_or rhops (n - 1) 0) where
+    pub stays_behind : n ≡ length starts → Stands starts rhops at (record { begun = n; hop = hop })
+    stays_behind e = stands_at starts rhops at n hop (e ∙ begun_all starts at n t.ascend known (omega (arith, e))) kept
+
+    pub stays_before : n < length starts → at < get_or starts n 0 → Stands starts rhops at (record { begun = n; hop = hop })
+    stays_before l m = stands_at starts rhops at n hop (begun_stops starts at n t.ascend known l m) kept
+
 -- what the walk goes by
 pub ruleset walked = (some_begun, begun_place, begun_first, stands_at)
+
+-- what it goes on by
+pub ruleset went_on = (next_start, stays_behind, stays_before, begun_more)
 
 pub one_more : (t size : ℕ) → 0 < t → (t - 1) * size + size ≡ t * size
 one_more zero size l = absurd (omega arith)
 one_more (suc t) size l = let one : suc t - 1 ≡ t = omega arith in rw one (omega arith)
+
+-- it has the hop of the last run that has begun
+pub hop_kept : {starts rhops : List ℕ} {base size t : ℕ} {s : Walk} → Before starts rhops base size t s → s.hop ≡ get_or rhops (s.begun - 1) 0
+unfolding hop_at
+hop_kept b = b.stands.hop_is ∙ rw b.stands.begun_is refl
 
 -- The walk stands at the block before block t: it may go on to that block, whose bit is 1 exactly where its hop isn't that before it.
 module _ {starts rhops : List ℕ} {base size t : ℕ} {s : Walk} (b : Before starts rhops base size t s) (some : 0 < t) where

@@ -10,13 +10,14 @@ use Prim.Native.Nat.{ℕ, zero, suc, ◌+◌, ◌-◌, ◌*◌, ◌^◌, ◌≤�
 use native.Mathlib.Nat.{mul-le-mul_left}
 use native.Mathlib.Omega.{arith}
 use lib.Pow.{pow_mono}
+use lib.ListN.{get_or}
 use lib.Dec.{eqb, ltb}
 use borrow.Author.Tests.{lt-ltb, eq-eqb}
 use Rattle.segment.specs.declared.Walk.{Walk}
 use Rattle.segment.specs.Packed.{bit, bit_value, word_from}
 use Rattle.segment.specs.Inside.Blocks.{begun, hop_in, Stands, Before, Grid}
 use Rattle.segment.proofs.WordOnes.{word_small, word_cut}
-use Rattle.segment.proofs.Walking.{may_go_on, bit_found, stands_before, bit_first, bit_none}
+use Rattle.segment.proofs.Walking.{may_go_on, hop_kept, bit_found, stands_before, bit_first, bit_none}
 
 -- a segment has at most as many blocks as addresses
 pub few_blocks : {base size n : ℕ} → Grid base size n → n ≤ 65536
@@ -114,8 +115,8 @@ module _ {starts rhops : List ℕ} {base size n first : ℕ} {s : Walk} where
     here : block < n → Before starts rhops base size block s
     here l = let same : min block n ≡ block = omega arith in rw same at m.walk_is
 
-    pub may_go : block < n → s.begun ≤ begun starts (base + block * size)
-    may_go l = may_walk block (here l)
+    pub may_go : block < n → (s.begun ≤ begun starts (base + block * size)) × (s.hop ≡ get_or rhops (s.begun - 1) 0)
+    may_go l = (may_walk block (here l), hop_kept (here l))
 
     module _ (more : block < first + 16) where
       pub bit_fits : word * 2 + 1 < 65536

@@ -3,7 +3,7 @@
 // business.
 #![tactic(auto)]
 
-ghost use Rattle.std.specs.Prelude.{◌≡◌, true, not, ◌+◌, ◌-◌, ◌*◌, ◌^◌, ◌≤◌, ◌<◌, min, length, eqb};
+ghost use Rattle.std.specs.Prelude.{◌≡◌, true, not, ◌+◌, ◌-◌, ◌*◌, ◌^◌, ◌≤◌, ◌<◌, min, length, get_or, eqb};
 ghost use Rattle.std.specs.Int.Count.{ones};
 ghost use Rattle.ground.specs.Column.{ascends};
 ghost use Rattle.ground.specs.Slots.{written};
@@ -59,15 +59,19 @@ impl Walk {
         }
     }
 
-    // The walk goes on to an address: whether the hop there is another one.
-    #[tactic(auto, using(crate::proofs::Walking::walked))]
+    // The walk goes on to an address: whether the hop there is another one. Where no run begins on the way there, the next start says so and
+    // no hop is read.
+    #[tactic(auto, using(crate::proofs::Walking::walked, crate::proofs::Walking::went_on))]
     fn go_on(&mut self, starts: &[u32], rhops: &[u16], at: u64) -> bool
-        requires { Runs starts.now rhops.now × (self.old.begun ≤ begun starts.now at) }
+        requires { Runs starts.now rhops.now × (self.old.begun ≤ begun starts.now at) × (self.old.hop ≡ get_or rhops.now (self.old.begun - 1) 0) }
         ensures stands { Stands starts.now rhops.now at self.new }
         ensures other { result ≡ not (eqb self.new.hop self.old.hop) }
     {
+        if self.begun == starts.len() || at < u64::from(starts[self.begun]) {
+            return false;
+        }
         let last = self.hop;
-        self.begun = begun_at(starts, self.begun, at);
+        self.begun = begun_at(starts, self.begun + 1, at);
         self.hop = rhops[self.begun - 1];
         self.hop != last
     }

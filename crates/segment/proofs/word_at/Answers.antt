@@ -8,7 +8,7 @@ pub loop-block-init : goal.loop-block-init
 loop-block-init c = making_start c.requires.2
 
 pub go_on-requires : goal.go_on-requires
-go_on-requires c = (c.requires.0, may_go c.loop-block.invariant (omega arith))
+go_on-requires c = let may = may_go c.loop-block.invariant (omega arith) in (c.requires.0, may.0, may.1)
 
 pub overflow_mul-word : goal.overflow_mul-word
 overflow_mul-word c = omega (arith, bit_fits c.loop-block.invariant (omega arith))
