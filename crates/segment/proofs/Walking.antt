@@ -59,7 +59,7 @@ module _ {starts rhops : List ℕ} (t : Runs starts rhops) (at n : ℕ) (known :
 -- what the walk goes by
 pub ruleset walked = (some_begun, begun_place, begun_first, stands_at)
 
--- what it goes on by
+-- what it goes by where no run begins on the way, and for the run that does
 pub ruleset went_on = (next_start, stays_behind, stays_before, begun_more)
 
 pub one_more : (t size : ℕ) → 0 < t → (t - 1) * size + size ≡ t * size

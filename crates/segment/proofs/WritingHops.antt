@@ -44,15 +44,16 @@ first_hop b = b.stands.hop_is
 module _ {starts rhops : List ℕ} {base size n : ℕ} {s : Walk} {out₀ : List ℕ} where
   -- after the first block, whose hop is written
   pub writing_start : Runs starts rhops → Grid base size n → Before starts rhops base size 0 s
-      → length (kept_hops (hop_in starts rhops base size) n) ≤ length out₀ → Writing starts rhops base size n s base 1 1 out₀ (set out₀ 0 s.hop)
+      → length (kept_hops (hop_in starts rhops base size) n) ≤ length out₀ → {hop : ℕ} → hop ≡ s.hop
+      → Writing starts rhops base size n s base 1 1 out₀ (set out₀ 0 hop)
   unfolding written
-  writing_start t g b room = record {
+  writing_start t g b room {hop} is = record {
     counting = counting_start t g b;
     room = room;
-    as_long = length-set out₀ 0 s.hop;
+    as_long = length-set out₀ 0 hop;
     hops_are =
-        rw (first_kept (hop_in starts rhops base size) n (some_block g), ← first_hop b)
-        (written_more [] out₀ s.hop (omega (arith, room, some_kept (hop_in starts rhops base size) n (some_block g))));
+        rw (first_kept (hop_in starts rhops base size) n (some_block g), ← first_hop b, ← is)
+        (written_more [] out₀ hop (omega (arith, room, some_kept (hop_in starts rhops base size) n (some_block g))));
   }
 
   module _ {at block kept : ℕ} {out : List ℕ} (w : Writing starts rhops base size n s at block kept out₀ out) where

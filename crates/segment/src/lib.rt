@@ -59,8 +59,8 @@ impl Walk {
         }
     }
 
-    // The walk goes on to an address: whether the hop there is another one. Where no run begins on the way there, the next start says so and
-    // no hop is read.
+    // The walk goes on to an address: whether the hop there is another than where it stood. Where no run begins on the way, it stands there as
+    // it is, and no hop is read.
     #[tactic(auto, using(crate::proofs::Walking::walked, crate::proofs::Walking::went_on))]
     fn go_on(&mut self, starts: &[u32], rhops: &[u16], at: u64) -> bool
         requires { Runs starts.now rhops.now × (self.old.begun ≤ begun starts.now at) × (self.old.hop ≡ get_or rhops.now (self.old.begun - 1) 0) }

@@ -11,7 +11,7 @@ pub bounds-out-0 : goal.bounds-out-0
 bounds-out-0 c = first_fits _ _ _ _ _ c.requires.1 c.requires.3
 
 pub loop-init : goal.loop-init
-loop-init c = let pre = c.requires in writing_start pre.0 pre.1 pre.2 pre.3
+loop-init c = let pre = c.requires in writing_start pre.0 pre.1 pre.2 pre.3 (omega arith)
 
 pub overflow_add-at : goal.overflow_add-at
 overflow_add-at c = omega (arith, next_fits c.loop.invariant.counting.at_block (omega arith))
